@@ -1,0 +1,5 @@
+pub mod Sorts
+pub mod Sifts
+pub mod Ends
+pub mod Promises
+pub mod Totals
