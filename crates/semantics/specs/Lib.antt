@@ -1,0 +1,14 @@
+pub mod Lists
+pub mod Limits
+pub mod Classes
+pub mod Calls
+pub mod Numbers
+pub mod State
+pub mod Puts
+pub mod Refusals
+pub mod Laws
+pub mod Judging
+pub mod Effect
+pub mod Step
+pub mod Asking
+pub mod Trace
