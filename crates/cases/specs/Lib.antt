@@ -1,0 +1,10 @@
+pub mod Records
+pub mod Table
+pub mod Refused
+pub mod Performed
+pub mod Ended
+pub mod Judged
+pub mod Near
+pub mod Held
+pub mod Runs
+pub mod Traced
