@@ -1,0 +1,17 @@
+pub mod Lists
+pub mod Tests
+pub mod Positions
+pub mod Orders
+pub mod Outstanding
+pub mod Epochs
+pub mod Homes
+pub mod HomeValues
+pub mod Laws
+pub mod Threads
+pub mod Invariant
+pub mod Judging
+pub mod Consistent
+pub mod Steps
+pub mod Verdicts
+pub mod Clean
+pub mod Refused
