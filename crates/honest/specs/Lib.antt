@@ -1,0 +1,6 @@
+pub mod Machine
+pub mod Record
+pub mod Limits
+pub mod Honest
+pub mod Examples
+pub mod Corners
