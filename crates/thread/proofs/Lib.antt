@@ -1,0 +1,4 @@
+pub mod Begun
+pub mod Tests
+pub mod Laws
+pub mod Ends

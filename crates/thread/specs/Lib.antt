@@ -1,0 +1,4 @@
+pub mod Begun
+pub mod View
+pub mod Tests
+pub mod Performing
