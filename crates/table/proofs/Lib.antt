@@ -1,0 +1,10 @@
+pub mod Rows
+pub mod Mapped
+pub mod Answers
+pub mod Calls
+pub mod Performs
+pub mod Ends
+pub mod Notices
+pub mod Judgings
+pub mod Settling
+pub mod Making

@@ -1,0 +1,3 @@
+pub mod Opens
+pub mod Views
+pub mod Judgings
