@@ -1,0 +1,3 @@
+pub mod Took
+pub mod Notices
+pub mod Promises
