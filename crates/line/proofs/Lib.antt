@@ -1,0 +1,4 @@
+pub mod Counting
+pub mod RoundTrip
+pub mod Bounds
+pub mod Drafting

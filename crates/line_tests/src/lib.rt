@@ -1,0 +1,3 @@
+// Lines read and written, by example.
+#[cfg(test)]
+mod tests;
