@@ -1,0 +1,2 @@
+pub mod CleanTexts
+pub mod RunTexts

@@ -1,0 +1,5 @@
+pub mod Plays
+pub mod Results
+pub mod Runs
+pub mod Promises
+pub mod Verdicts
