@@ -1,0 +1,4 @@
+// A verdict in words: the sentence of an explanation.
+mod operation;
+pub mod shown;
+mod words;
