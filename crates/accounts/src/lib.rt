@@ -1,4 +1,6 @@
 // The promises on the accounts of epochs. The contract of each function is a theorem over every trace that a watch can meet.
+#![tactic(auto)]
+
 ghost use Rattle.accounts.specs.Examples.{ExamplesStand};
 ghost use Rattle.accounts.specs.Exact.{AccountsAreExact};
 ghost use Rattle.accounts.specs.Homes.{HomesAreTold};

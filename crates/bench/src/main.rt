@@ -1,4 +1,6 @@
 // Drives a watch through many calls: `bench [OPERATIONS [REPEATS]]`, and with REPEATS it says how long that took.
+#![tactic(auto)]
+
 ghost use Rattle.std.specs.Prelude.{◌≤◌};
 
 use anyhow::anyhow;

@@ -1,4 +1,6 @@
 // A program made with the library: a buyer's own ordering rule, written as a table of bytes, over two small records.
+#![tactic(auto)]
+
 use ordering::bytes::ByteTable;
 use semantics::counts::Counts;
 use semantics::verdict::{Conviction, Verdict};

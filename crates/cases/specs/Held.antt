@@ -10,7 +10,7 @@ use Rattle.semantics.specs.declared.verdict.Verdict.{Verdict}
 use Rattle.semantics.specs.declared.verdict.Verdict.TheVariants.{Running, Clean, Guilty}
 use Rattle.semantics.specs.Asking.{counts, free_places}
 use Rattle.semantics.specs.Calls.{Call, preset, commit, perform, advance, begin, end, report, drop, settle, close}
-use Rattle.semantics.specs.State.{State, made, thread_of, home_of}
+use Rattle.semantics.specs.State.{made, thread_of, home_of}
 use Rattle.cases.specs.Table.{after}
 
 -- The five accounts, by their sizes.

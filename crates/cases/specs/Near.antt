@@ -11,7 +11,7 @@ use Rattle.semantics.specs.Effect.{opened}
 use Rattle.semantics.specs.Limits.{places}
 use Rattle.semantics.specs.Puts.{marked}
 use Rattle.cases.specs.Records.{taken, refused, convicted}
-use Rattle.semantics.specs.State.{State, made, unused}
+use Rattle.semantics.specs.State.{State, unused}
 use Rattle.cases.specs.Table.{Case, case_at, AllAgree}
 
 -- k loads of place 3, numbered from n on.

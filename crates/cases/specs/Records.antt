@@ -2,7 +2,7 @@
 use Rattle.std.specs.Prelude.{◌≡◌, ℕ, zero, suc, ◌+◌, List, [], ◌∷◌, ◌++◌, replicate}
 use Rattle.ordering.specs.Named.{named_orders}
 use Rattle.ordering.specs.declared.named.NamedRule.{NamedRule}
-use Rattle.ordering.specs.declared.named.NamedRule.TheVariants.{Sc, Tso, Pso, Rmo}
+use Rattle.ordering.specs.declared.named.NamedRule.TheVariants.{Sc, Tso, Rmo}
 use Rattle.semantics.specs.Calls.{Call, preset, commit, perform, advance, begin, end, report, drop, settle, close, Answer}
 use Rattle.semantics.specs.Calls
 use Rattle.semantics.specs.Laws.{by_rule}

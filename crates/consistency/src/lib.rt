@@ -1,4 +1,6 @@
 // What the verdict of a watch promises, for every rule, every number of threads and every trace: each function stands for a theorem.
+#![tactic(auto)]
+
 ghost use Rattle.consistency.specs.Examples.{CallsAreFollowed, RecordsAreClean, RecordIsConvicted, CallIsRefused};
 ghost use Rattle.consistency.specs.Promises.{OrderIsTotal, CleanIsConsistent, CloseIsConsistent, CleanKeepsPlaces, CleanCopiesAreLatest, CleanPerformsAll, RefusedChangesNothing, ConvictedNeverClean, OneCleanClose};
 

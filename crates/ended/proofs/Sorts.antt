@@ -1,5 +1,5 @@
 -- Sorting rows and then reading them as plain ones is sorting the plain ones. Assumes nothing.
-use Rattle.std.proofs.Common.{◌≡◌, Bool, true, false, cond, List, [], ◌∷◌, map, sym, refl, ap, ◌∙◌}
+use Rattle.std.proofs.Common.{◌≡◌, Bool, true, false, cond, List, [], ◌∷◌, map, refl, ap, ◌∙◌}
 use Rattle.queue.specs.Order.{insert, sorted}
 
 module _ {A B : Type 0} (f : A → B) (le : B → B → Bool) where

@@ -4,7 +4,6 @@ use Rattle.event.specs.declared.event.Event.{Event}
 use Rattle.event.specs.declared.event.Event.TheVariants as says
 use Rattle.ordering.specs.Classes.{known_class}
 use Rattle.ordering.specs.declared.class.Class.{Class}
-use Rattle.semantics.specs.declared.verdict.Conviction.{Conviction}
 use Rattle.semantics.specs.declared.verdict.Law.{Law}
 use Rattle.semantics.specs.declared.verdict.Law.TheVariants as law
 use Rattle.text.specs.declared.reader.Entry.{Entry}

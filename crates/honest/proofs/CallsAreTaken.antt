@@ -18,7 +18,6 @@ use Rattle.semantics.specs.Lists.{is_some, find, keep, change, map, first_some}
 use Rattle.semantics.specs.Puts.{put_clock, put_thread, put_queues, without, marked}
 use Rattle.semantics.specs.State.{State, Thread, idle, thread_of, home_of, outstanding_as, owed_as}
 use Rattle.honest.specs.Limits.{Use, committing, performing, advancing, beginning, ending, before_safe, epoch_from, opened_from, notice_from, owed_from, Room}
-use Rattle.honest.specs.Limits
 use Rattle.honest.specs.Machine.{put}
 use Rattle.honest.specs.Record.{own_steps, NotAfter}
 use Rattle.honest.proofs.Accepts.{commits_to, enters, leaves, Accepts}

@@ -1,4 +1,6 @@
 // The promise to an honest board, over what the calls of a watch mean.
+#![tactic(auto)]
+
 ghost use Rattle.honest.specs.Corners.{Corners};
 ghost use Rattle.honest.specs.Examples.{WorkedIsARecord, MixedIsARecord};
 ghost use Rattle.honest.specs.Honest.{HonestIsClean, TakenIsWithin, HonestCallIsTaken, HonestCloseIsClean};

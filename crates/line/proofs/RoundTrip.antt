@@ -9,7 +9,6 @@ use Rattle.line.specs.declared.fault.Garbled.TheVariants.{FieldCount, Unknown, N
 use Rattle.event.specs.Kinds.{word_of, kind_named}
 use Rattle.fields.specs.Numbers.{number}
 use Rattle.fields.specs.Splits.{split}
-use Rattle.fields.specs.Steps.{◌given◌, ◌then◌}
 use Rattle.line.specs.Columns.{Six, six}
 use Rattle.event.specs.Events.{kind_of, row_of}
 use Rattle.line.specs.Lines.{fields_of, line_of, row, Fit, ReadsBack, OneLine}

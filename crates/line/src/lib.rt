@@ -1,4 +1,6 @@
 // The line of an event, read and written, and what can go wrong with a text.
+#![tactic(auto)]
+
 pub mod code;
 mod columns;
 mod draft;

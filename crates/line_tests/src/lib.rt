@@ -1,3 +1,5 @@
 // Lines read and written, by example.
+#![tactic(auto)]
+
 #[cfg(test)]
 mod tests;

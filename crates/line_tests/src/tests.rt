@@ -14,14 +14,14 @@ const PERFORM: Event = Event::Perform {
 fn a_line_is_written(rt: HostRuntime) {
     let mut space = [7u8; 20];
     assert_eq!(rt; write_line(PERFORM, &mut space), Ok(19));
-    assert!(rt; &space[0..20] == b"perform 0 12 0 0 5\n\x07");
+    assert!(rt; &space[0..20] == b"perform 0 12 0 0 5\n\x07".as_slice());
 }
 
 #[test]
 fn a_line_that_just_fits_is_written(rt: HostRuntime) {
     let mut space = [7u8; 19];
     assert_eq!(rt; write_line(PERFORM, &mut space), Ok(19));
-    assert!(rt; &space[0..19] == b"perform 0 12 0 0 5\n");
+    assert!(rt; &space[0..19] == b"perform 0 12 0 0 5\n".as_slice());
 }
 
 #[test]

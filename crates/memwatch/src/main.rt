@@ -1,4 +1,6 @@
 // The program: a trace on standard input, its verdict on standard output, and what it means on standard error.
+#![tactic(auto)]
+
 ghost use Rattle.std.specs.Prelude.{◌≤◌, length, IfOk};
 
 use anyhow::anyhow;

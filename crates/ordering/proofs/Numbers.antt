@@ -1,5 +1,5 @@
 -- Facts on the numbers of classes. Assumes nothing.
-use Rattle.std.proofs.Common.{◌≡◌, ℕ, suc, ◌-◌, ◌≤◌, refl, ap, arith, rules}
+use Rattle.std.proofs.Common.{◌≡◌, ℕ, suc, ◌-◌, ◌≤◌, ap, arith, rules}
 use Rattle.ordering.specs.declared.class.Class.TheVariants.{Barrier}
 use Rattle.ordering.specs.Classes.{class_of, mask_of}
 use Rattle.ordering.specs.Laws.{ClassesHaveNumbers, NumbersNameClasses}

@@ -1,4 +1,6 @@
 // Ordering rules: which two operations of a thread have to perform in program order.
+#![tactic(auto)]
+
 pub mod bytes;
 pub mod class;
 pub mod laws;

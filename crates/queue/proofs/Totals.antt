@@ -1,61 +1,72 @@
 -- A row's fields in turn make a total order that a derived `cmp` answers by. Assumes nothing.
 --     whole (next number first-field (next flag second-field (last number third-field))) all-same
-use Rattle.std.proofs.Common.{◌≡◌, ℕ, ◌<◌, Bool, true, false, cond, leb, ◌⊎◌, Ordering, Less, Equal, Greater, sym, refl, ap, ◌∙◌, subst, inl, inr, true≢false, arith}
+use Rattle.std.proofs.Common.{◌≡◌, ◌<◌, Bool, true, false, cond, leb, ◌⊎◌, Ordering, Less, Equal, Greater, sym, refl, ap, ◌∙◌, subst, inl, inr, true≢false, arith}
 use Rattle.std.proofs.lemmas.Bool.Decides.{nat_tests}
-use Rattle.std.specs.Ordering.{is_le, is_lt, MatchOrdering}
+use Rattle.std.specs.Cmp.{ranks}
+use Rattle.std.specs.Ordering.{is_le, is_lt, MatchOrdering, ordering_then, nat_cmp, bool_cmp}
 use Rattle.queue.specs.Order.{TotalLe}
 use Rattle.queue.specs.Fields.{in_turn, flag_le}
 
--- le is a total order but for what S takes as the same, and R, the answers that `cmp` may give, keeps to it
-pub record Ordered {X : Type 0} (R : X → X → Ordering → Type 0) (le : X → X → Bool) (S : X → X → Type 0) : Type 0 where
+-- le is a total order but for what S takes as the same, and C, what `cmp` answers, keeps to it
+pub record Ordered {X : Type 0} (C : X → X → Ordering) (le : X → X → Bool) (S : X → X → Type 0) : Type 0 where
   pub either : (x y : X) → le x y ≡ false → le y x ≡ true
   pub chain : (x y z : X) → le x y ≡ true → le y z ≡ true → le x z ≡ true
   pub same : (x y : X) → le x y ≡ true → le y x ≡ true → S x y
-  pub less : (x y : X) → R x y Less → le y x ≡ false
-  pub equal : (x y : X) → R x y Equal → (le x y ≡ true) × (le y x ≡ true)
-  pub greater : (x y : X) → R x y Greater → le x y ≡ false
+  pub less : (x y : X) → C x y ≡ Less → le y x ≡ false
+  pub equal : (x y : X) → C x y ≡ Equal → (le x y ≡ true) × (le y x ≡ true)
+  pub greater : (x y : X) → C x y ≡ Greater → le x y ≡ false
 
 -- an order of one field, or of a whole row
-abbrev pub Field : {X : Type 0} → (X → X → Ordering → Type 0) → (X → X → Bool) → Type 0
-Field {X} R le = Ordered R le (λ (x y : X). x ≡ y)
+abbrev pub Field : {X : Type 0} → (X → X → Ordering) → (X → X → Bool) → Type 0
+Field {X} C le = Ordered C le (λ (x y : X). x ≡ y)
 
--- what a derived `cmp` says of a field: it decides, or is equal and those after it decide
-abbrev pub Turn : (Ordering → Type 0) → (Ordering → Type 0) → Ordering → Type 0
-Turn P Q r = (P Less × (r ≡ Less)) ⊎ ((P Greater × (r ≡ Greater)) ⊎ (P Equal × Q r))
-
-module _ {X : Type 0} {R : X → X → Ordering → Type 0} {le : X → X → Bool} (w : Field R le) where
+module _ {X : Type 0} {C : X → X → Ordering} {le : X → X → Bool} (w : Field C le) where
   -- the two laws of a total order that a `cmp` answers by
   pub total : TotalLe le
   total = record { either = w.either; chain = w.chain; same = w.same }
 
-  pub says : (x y : X) (r : Ordering) → R x y r → is_le r ≡ le x y
-  says x y Less h = sym (w.either y x (w.less x y h))
-  says x y Equal h = sym (w.equal x y h).0
-  says x y Greater h = sym (w.greater x y h)
+  pub says : (x y : X) (r : Ordering) → r ≡ C x y → is_le r ≡ le x y
+  says x y Less h = sym (w.either y x (w.less x y (sym h)))
+  says x y Equal h = sym (w.equal x y (sym h)).0
+  says x y Greater h = sym (w.greater x y (sym h))
 
-pub number : Field (λ (x y : ℕ) (r : Ordering). MatchOrdering r (x < y) (x ≡ y) (y < x)) leb
+pub number : Field nat_cmp leb
 number = record {
   either = λ x y e. grind (arith, nat_tests);
   chain = λ x y z d e. grind (arith, nat_tests);
   same = λ x y d e. grind (arith, nat_tests);
-  less = λ x y h. grind (arith, nat_tests);
-  equal = λ x y h. (grind (arith, nat_tests), grind (arith, nat_tests));
-  greater = λ x y h. grind (arith, nat_tests);
+  less = λ x y h. let d : x < y = subst (λ r. MatchOrdering r (x < y) (x ≡ y) (y < x)) h (ranks x y) in grind (arith, nat_tests);
+  equal = λ x y h. let d : x ≡ y = subst (λ r. MatchOrdering r (x < y) (x ≡ y) (y < x)) h (ranks x y) in (grind (arith, nat_tests), grind (arith, nat_tests));
+  greater = λ x y h. let d : y < x = subst (λ r. MatchOrdering r (x < y) (x ≡ y) (y < x)) h (ranks x y) in grind (arith, nat_tests);
 }
 
-pub flag : Field (λ (x y : Bool) (r : Ordering). MatchOrdering r ((x ≡ false) × (y ≡ true)) (x ≡ y) ((x ≡ true) × (y ≡ false))) flag_le
+pub flag : Field bool_cmp flag_le
 flag = record {
   either = flag_either;
   chain = flag_chain;
   same = flag_same;
-  less = λ x y h. ap (λ z. flag_le y z) h.0 ∙ ap (λ z. flag_le z false) h.1;
-  equal = λ x y h. (subst (λ z. flag_le x z ≡ true) h (flag_itself x), subst (λ z. flag_le z x ≡ true) h (flag_itself x));
-  greater = λ x y h. ap (λ z. flag_le z y) h.0 ∙ h.1;
+  less = flag_less;
+  equal = flag_equal;
+  greater = flag_greater;
 }
   where
-    flag_itself : (x : Bool) → flag_le x x ≡ true
-    flag_itself true = refl
-    flag_itself false = refl
+    flag_less : (x y : Bool) → bool_cmp x y ≡ Less → flag_le y x ≡ false
+    flag_less true true h = absurd (true≢false (sym (ap is_lt h)))
+    flag_less true false h = absurd (true≢false (sym (ap is_lt h)))
+    flag_less false true h = refl
+    flag_less false false h = absurd (true≢false (sym (ap is_lt h)))
+
+    flag_equal : (x y : Bool) → bool_cmp x y ≡ Equal → (flag_le x y ≡ true) × (flag_le y x ≡ true)
+    flag_equal true true h = (refl, refl)
+    flag_equal true false h = absurd (true≢false (sym (ap is_le h)))
+    flag_equal false true h = absurd (true≢false (ap is_lt h))
+    flag_equal false false h = (refl, refl)
+
+    flag_greater : (x y : Bool) → bool_cmp x y ≡ Greater → flag_le x y ≡ false
+    flag_greater true true h = absurd (true≢false (ap is_le h))
+    flag_greater true false h = refl
+    flag_greater false true h = absurd (true≢false (ap is_le h))
+    flag_greater false false h = absurd (true≢false (ap is_le h))
 
     flag_either : (x y : Bool) → flag_le x y ≡ false → flag_le y x ≡ true
     flag_either true true e = refl
@@ -75,7 +86,7 @@ flag = record {
     flag_same false false d e = refl
 
 -- the last field of a row
-pub last : {X A : Type 0} {R : A → A → Ordering → Type 0} {le : A → A → Bool} → Field R le → (f : X → A) → Ordered (λ (x y : X). R (f x) (f y)) (λ x y. le (f x) (f y)) (λ x y. f x ≡ f y)
+pub last : {X A : Type 0} {C : A → A → Ordering} {le : A → A → Bool} → Field C le → (f : X → A) → Ordered (λ (x y : X). C (f x) (f y)) (λ x y. le (f x) (f y)) (λ x y. f x ≡ f y)
 last w f = record {
   either = λ x y. w.either (f x) (f y);
   chain = λ x y z. w.chain (f x) (f y) (f z);
@@ -106,7 +117,7 @@ module _ {A : Type 0} (le : A → A → Bool) (a b : A) (rest : Bool) where
   parts false q d e h = absurd (true≢false (sym h ∙ after d))
 
 -- a field before others
-module _ {X A : Type 0} {R : A → A → Ordering → Type 0} {le : A → A → Bool} (w : Field R le) (f : X → A) {Q : X → X → Ordering → Type 0} {more : X → X → Bool} {S : X → X → Type 0} (v : Ordered Q more S) where
+module _ {X A : Type 0} {C : A → A → Ordering} {le : A → A → Bool} (w : Field C le) (f : X → A) {D : X → X → Ordering} {more : X → X → Bool} {S : X → X → Type 0} (v : Ordered D more S) where
   abbrev turn : X → X → Bool
   turn x y = in_turn le (f x) (f y) (more x y)
 
@@ -137,36 +148,36 @@ module _ {X A : Type 0} {R : A → A → Ordering → Type 0} {le : A → A → 
   both_ways x y (d, inr g) (e, inl k) = absurd (true≢false (sym d ∙ k))
   both_ways x y (d, inr g) (e, inr k) = (w.same (f x) (f y) d e, v.same x y g.1 k.1)
 
-  turn_less : (x y : X) → Turn (R (f x) (f y)) (Q x y) Less → turn y x ≡ false
-  turn_less x y (inl h) = after le (f y) (f x) (more y x) (w.less (f x) (f y) h.0)
-  turn_less x y (inr (inl h)) = absurd (true≢false (ap is_le h.1))
-  turn_less x y (inr (inr h)) = let e = w.equal (f x) (f y) h.0 in level le (f y) (f x) (more y x) e.1 e.0 ∙ v.less x y h.1
+  turn_less : (x y : X) (r : Ordering) → C (f x) (f y) ≡ r → ordering_then r (D x y) ≡ Less → turn y x ≡ false
+  turn_less x y Less e h = after le (f y) (f x) (more y x) (w.less (f x) (f y) e)
+  turn_less x y Equal e h = let m = w.equal (f x) (f y) e in level le (f y) (f x) (more y x) m.1 m.0 ∙ v.less x y h
+  turn_less x y Greater e h = absurd (true≢false (sym (ap is_lt h)))
 
-  turn_equal : (x y : X) → Turn (R (f x) (f y)) (Q x y) Equal → (turn x y ≡ true) × (turn y x ≡ true)
-  turn_equal x y (inl h) = absurd (true≢false (sym (ap is_lt h.1)))
-  turn_equal x y (inr (inl h)) = absurd (true≢false (ap is_le h.1))
-  turn_equal x y (inr (inr h)) =
-      let e = w.equal (f x) (f y) h.0 in
-      let m = v.equal x y h.1 in
-      (level le (f x) (f y) (more x y) e.0 e.1 ∙ m.0, level le (f y) (f x) (more y x) e.1 e.0 ∙ m.1)
+  turn_equal : (x y : X) (r : Ordering) → C (f x) (f y) ≡ r → ordering_then r (D x y) ≡ Equal → (turn x y ≡ true) × (turn y x ≡ true)
+  turn_equal x y Less e h = absurd (true≢false (ap is_lt h))
+  turn_equal x y Equal e h =
+      let m = w.equal (f x) (f y) e in
+      let n = v.equal x y h in
+      (level le (f x) (f y) (more x y) m.0 m.1 ∙ n.0, level le (f y) (f x) (more y x) m.1 m.0 ∙ n.1)
+  turn_equal x y Greater e h = absurd (true≢false (sym (ap is_le h)))
 
-  turn_greater : (x y : X) → Turn (R (f x) (f y)) (Q x y) Greater → turn x y ≡ false
-  turn_greater x y (inl h) = absurd (true≢false (sym (ap is_le h.1)))
-  turn_greater x y (inr (inl h)) = after le (f x) (f y) (more x y) (w.greater (f x) (f y) h.0)
-  turn_greater x y (inr (inr h)) = let e = w.equal (f x) (f y) h.0 in level le (f x) (f y) (more x y) e.0 e.1 ∙ v.greater x y h.1
+  turn_greater : (x y : X) (r : Ordering) → C (f x) (f y) ≡ r → ordering_then r (D x y) ≡ Greater → turn x y ≡ false
+  turn_greater x y Less e h = absurd (true≢false (ap is_le h))
+  turn_greater x y Equal e h = let m = w.equal (f x) (f y) e in level le (f x) (f y) (more x y) m.0 m.1 ∙ v.greater x y h
+  turn_greater x y Greater e h = after le (f x) (f y) (more x y) (w.greater (f x) (f y) e)
 
-  pub next : Ordered (λ (x y : X). Turn (R (f x) (f y)) (Q x y)) (λ x y. in_turn le (f x) (f y) (more x y)) (λ x y. (f x ≡ f y) × S x y)
+  pub next : Ordered (λ (x y : X). ordering_then (C (f x) (f y)) (D x y)) (λ x y. in_turn le (f x) (f y) (more x y)) (λ x y. (f x ≡ f y) × S x y)
   next = record {
     either = λ x y. turn_either x y (le (f x) (f y)) (le (f y) (f x)) refl refl;
     chain = λ x y z d e. by_ways x y z (way x y d) (way y z e);
     same = λ x y d e. both_ways x y (way x y d) (way y x e);
-    less = turn_less;
-    equal = turn_equal;
-    greater = turn_greater;
+    less = λ x y. turn_less x y (C (f x) (f y)) refl;
+    equal = λ x y. turn_equal x y (C (f x) (f y)) refl;
+    greater = λ x y. turn_greater x y (C (f x) (f y)) refl;
   }
 
 -- a row whose fields are all compared
-pub whole : {X : Type 0} {R : X → X → Ordering → Type 0} {le : X → X → Bool} {S : X → X → Type 0} → Ordered R le S → ((x y : X) → S x y → x ≡ y) → Field R le
+pub whole : {X : Type 0} {C : X → X → Ordering} {le : X → X → Bool} {S : X → X → Type 0} → Ordered C le S → ((x y : X) → S x y → x ≡ y) → Field C le
 whole w all = record {
   either = w.either;
   chain = w.chain;

@@ -1,4 +1,6 @@
 // The queue at rows of two and of four fields, added in a scrambled order and taken out in order.
+#![tactic(auto)]
+
 pub mod alarm;
 pub mod pair;
 pub mod sort;

@@ -1,6 +1,7 @@
 // A row of two numbers. Its order is that of the numbers in turn.
 ghost use Rattle.queue_tests.specs.Rows.{pair_le};
-ghost use Rattle.std.proofs.Common.{rules};
+ghost use Rattle.queue.proofs.Totals.{total, says};
+ghost use Rattle.queue_tests.specs.Orders.{pair_order};
 
 use queue::TotalOrder;
 
@@ -10,7 +11,7 @@ pub struct Pair(pub u64, pub u64);
 impl TotalOrder for Pair {
     ghost le = { pair_le };
 
-    ghost lawful = { Prim.search rules };
+    ghost lawful = { total pair_order };
 
-    ghost says = { Prim.search rules };
+    ghost says = { says pair_order };
 }

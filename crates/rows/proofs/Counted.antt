@@ -1,8 +1,8 @@
 -- Lookups in the first n rows of an array. Assumes nothing.
-use Rattle.std.proofs.Common.{◌≡◌, ℕ, ◌+◌, ◌-◌, ◌<◌, ◌≤◌, min, Bool, true, false, cond, not, List, [], ◌∷◌, ◌++◌, length, get_or, take, drop, set, Some, None, Option, sym, refl, ap, ◌∙◌, subst, arith}
+use Rattle.std.proofs.Common.{◌≡◌, ℕ, ◌+◌, ◌-◌, ◌<◌, ◌≤◌, Bool, true, false, cond, not, List, [], ◌∷◌, length, get_or, take, Some, None, Option, sym, refl, ap, ◌∙◌, subst, arith}
 use Rattle.std.proofs.lemmas.Bool.{true≢false}
-use Rattle.std.proofs.lemmas.List.{get_or-take, length-take, same_lists, length-set}
-use Rattle.semantics.specs.Lists.{find, keep, change, last_of}
+use Rattle.std.proofs.lemmas.List.{get_or-take, length-take}
+use Rattle.semantics.specs.Lists.{find, keep, last_of}
 use Rattle.rows.specs.Found.{Found, FoundLast}
 
 -- `&xs[0..n]` as the checker reads it

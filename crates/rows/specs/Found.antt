@@ -1,5 +1,5 @@
 -- What a lookup in a list finds. Assumes nothing.
-use Rattle.std.specs.Prelude.{◌≡◌, ℕ, ◌<◌, Bool, List, length, Some, None, slice_index_or, slice_set}
+use Rattle.std.specs.Prelude.{◌≡◌, ℕ, ◌<◌, Bool, List, length, Some, slice_index_or, slice_set}
 use Rattle.semantics.specs.Lists.{find, keep, change, last_of}
 
 -- the first that passes stands at i

@@ -1,4 +1,6 @@
 // Looking for rows in a slice, and taking rows out of its first `count`.
+#![tactic(auto)]
+
 ghost use Rattle.std.specs.Prelude.{◌≡◌, ◌+◌, ◌<◌, ◌≤◌, Bool, not, [], ◌∷◌, ◌++◌, length, take, Some, None, MatchOption};
 ghost use Rattle.semantics.specs.Lists.{find, keep, last_of};
 ghost use Rattle.rows.specs.Found.{Found, FoundLast};
@@ -13,7 +15,7 @@ pub trait Test<T> {
 
 // The first row that passes.
 pub fn first<T, P: Test<T>>(rows: &[T], test: &P) -> Option<usize>
-    ensures { MatchOption result (find (holds test.now) rows.now ≡ None) (λ i. Found (holds test.now) rows.now i) }
+    ensures { MatchOption result (find (P.holds test.now) rows.now ≡ None) (λ i. Found (P.holds test.now) rows.now i) }
 {
     for (i, row) in rows.iter().enumerate() {
         if test.passes(row) {
@@ -25,7 +27,7 @@ pub fn first<T, P: Test<T>>(rows: &[T], test: &P) -> Option<usize>
 
 // The last row that passes.
 pub fn last<T, P: Test<T>>(rows: &[T], test: &P) -> Option<usize>
-    ensures { MatchOption result (last_of (keep (holds test.now) rows.now) ≡ None) (λ i. FoundLast (holds test.now) rows.now i) }
+    ensures { MatchOption result (last_of (keep (P.holds test.now) rows.now) ≡ None) (λ i. FoundLast (P.holds test.now) rows.now i) }
 {
     let mut at = rows.len();
     while 0 < at {
@@ -41,7 +43,7 @@ pub fn last<T, P: Test<T>>(rows: &[T], test: &P) -> Option<usize>
 pub fn remove<T: Copy, P: Test<T>>(rows: &mut [T], count: usize, test: &P) -> usize
     requires { count ≤ length rows.old }
     ensures bound { result ≤ count }
-    ensures rest { take result rows.new ≡ keep (λ x. not (holds test.now x)) (take count rows.old) }
+    ensures rest { take result rows.new ≡ keep (λ x. not (P.holds test.now x)) (take count rows.old) }
 {
     let mut n = 0;
     for i in 0..count {

@@ -1,8 +1,8 @@
 -- What can be asked of a watch without changing it: the five accounts, and how many more operations of a thread may be outstanding. Assumes nothing.
-use Rattle.std.specs.Prelude.{◌≡◌, ℕ, ◌+◌, ◌-◌, ◌<◌, ◌≤◌, List, [], ◌∷◌, length}
+use Rattle.std.specs.Prelude.{◌≡◌, ℕ, ◌+◌, ◌-◌, ◌≤◌, List, [], ◌∷◌, length}
 use Rattle.semantics.specs.declared.counts.Counts.{Counts}
 use Rattle.semantics.specs.Limits.{most_outstanding}
-use Rattle.semantics.specs.State.{Thread, State, thread_of}
+use Rattle.semantics.specs.State.{Thread, State}
 
 -- How many epochs some threads have open.
 abbrev pub open_in : List Thread → ℕ

@@ -8,7 +8,7 @@ use Rattle.semantics.specs.declared.verdict.Conviction.{Conviction}
 use Rattle.semantics.specs.declared.verdict.Law.TheVariants.{Overlap, WrongBeginValue}
 use Rattle.semantics.specs.Lists.{first_some, least_of, map, flat}
 use Rattle.semantics.specs.Puts.{put_value, put_ends, put_home, put_queues, put_counts}
-use Rattle.semantics.specs.State.{Thread, State, home_of}
+use Rattle.semantics.specs.State.{State, home_of}
 
 -- The order of judging: by begin, then by number. Numbers differ, so the other fields, which make the order total, never decide.
 abbrev pub ended_le : Ended → Ended → Bool

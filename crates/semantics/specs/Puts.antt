@@ -8,7 +8,7 @@ use Rattle.semantics.specs.declared.verdict.Conviction.{Conviction}
 use Rattle.semantics.specs.declared.verdict.Verdict.{Verdict}
 use Rattle.semantics.specs.declared.verdict.Verdict.TheVariants.{Guilty}
 use Rattle.semantics.specs.Lists.{keep}
-use Rattle.semantics.specs.State.{Thread, State, home_of}
+use Rattle.semantics.specs.State.{Thread, State}
 
 -- In a thread.
 abbrev pub put_clock : Thread → ℕ → Thread

@@ -9,7 +9,7 @@ use Rattle.semantics.specs.Calls.{Call, preset, commit, perform, advance, begin,
 use Rattle.semantics.specs.Classes.{last_class, op_class, touches}
 use Rattle.semantics.specs.Limits.{most_threads, last_place, last_kind, most_outstanding, most_commits, most_open, most_begins, most_owed, most_waiting}
 use Rattle.semantics.specs.Lists.{is_some}
-use Rattle.semantics.specs.State.{Thread, State, thread_of, home_of, outstanding_as, epoch_at, owed_as, busy}
+use Rattle.semantics.specs.State.{State, thread_of, home_of, outstanding_as, epoch_at, owed_as, busy}
 
 -- A test, and the refusal that it means where it holds.
 abbrev pub Test : Type 0

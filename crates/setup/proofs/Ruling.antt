@@ -1,14 +1,11 @@
 -- A rule is read from just the bytes of its name. Assumes nothing.
-use Rattle.std.proofs.Common.{◌≡◌, ℕ, ◌≤◌, true, List, length, Some, None, refl, arith}
+use Rattle.std.proofs.Common.{◌≡◌, ℕ, ◌≤◌, true, List, length, Some, refl, arith}
 use Rattle.std.specs.Str.Iter.{LacksByte}
 use Rattle.fields.proofs.Lacking.{without, lacks_from_without}
-use Rattle.fields.proofs.Spelling.{among_none, spelled_among}
+use Rattle.fields.proofs.Spelling.{spelled_among}
 use Rattle.setup.specs.declared.setup.RuleName.{RuleName}
 use Rattle.setup.specs.declared.setup.RuleName.TheVariants.{Sc, Tso, Pso, Rmo}
 use Rattle.setup.specs.Rules.{name_of, rules, rule_named}
-
-pub rule_none : (bs : List ℕ) → ((r : RuleName) → bs ≡ name_of r → ⊥) → rule_named bs ≡ None
-rule_none bs no_rule = among_none name_of rules bs no_rule
 
 pub rule_name : (r : RuleName) → rule_named (name_of r) ≡ Some r
 rule_name Sc = refl

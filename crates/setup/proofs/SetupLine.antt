@@ -1,11 +1,10 @@
 -- Reading and writing the second line are each other's inverse. Assumes nothing.
-use Rattle.std.proofs.Common.{◌≡◌, ◌+◌, ◌^◌, ◌<◌, [], ◌∷◌, ◌++◌, length, Ok, decimal, Result, sym, refl, ap, ◌∙◌, arith, length-append}
+use Rattle.std.proofs.Common.{◌≡◌, ◌^◌, ◌<◌, [], ◌∷◌, ◌++◌, length, Ok, decimal, Result, sym, refl, ap, ◌∙◌, arith, length-append}
 use Rattle.std.specs.Option.{ok_or}
 use Rattle.std.specs.Str.Iter.{LacksByte}
 use Rattle.std.specs.List.{join_with_byte}
 use Rattle.fields.specs.Numbers.{number}
 use Rattle.fields.specs.Splits.{split}
-use Rattle.fields.specs.Steps.{◌then◌}
 use Rattle.fields.proofs.Lacking.{lacks_cons, lacks_append}
 use Rattle.fields.proofs.Numerals.{number_decimal, decimal_number, length_decimal, lacks_in_decimal}
 use Rattle.fields.proofs.Splitting.{split_front, split_last, rejoined_split}

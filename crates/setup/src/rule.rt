@@ -21,13 +21,13 @@ impl RuleName {
     pub fn from_bytes(field: &[u8]) -> Option<RuleName>
         ensures { result ≡ rule_named field.now }
     {
-        if field == b"sc" {
+        if field == b"sc".as_slice() {
             Some(RuleName::Sc)
-        } else if field == b"tso" {
+        } else if field == b"tso".as_slice() {
             Some(RuleName::Tso)
-        } else if field == b"pso" {
+        } else if field == b"pso".as_slice() {
             Some(RuleName::Pso)
-        } else if field == b"rmo" {
+        } else if field == b"rmo".as_slice() {
             Some(RuleName::Rmo)
         } else {
             None

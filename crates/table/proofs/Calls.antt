@@ -1,18 +1,17 @@
 -- What preset, advance, commit and begin leave. Assumes nothing.
-use Rattle.std.proofs.Common.{◌≡◌, ℕ, ◌+◌, ◌<◌, ◌≤◌, Bool, true, false, cond, leb, List, [], ◌∷◌, ◌++◌, length, get_or, set, Some, None, sym, refl, ap, ◌∙◌, subst, arith}
+use Rattle.std.proofs.Common.{◌≡◌, ℕ, ◌+◌, ◌<◌, ◌≤◌, leb, List, [], ◌∷◌, ◌++◌, get_or, set, Some, None, sym, ap, ◌∙◌}
 use Rattle.std.proofs.lemmas.Bool.{le-leb, lt-leb}
-use Rattle.semantics.specs.declared.class.OpClass.{OpClass}
 use Rattle.semantics.specs.declared.verdict.Limit.TheVariants as limit
 use Rattle.semantics.specs.declared.verdict.Refusal.{Refusal}
 use Rattle.semantics.specs.declared.verdict.Refusal.TheVariants.{Over}
 use Rattle.semantics.specs.Calls.{preset, advance, commit, begin, taken}
 use Rattle.semantics.specs.Classes.{op_class}
-use Rattle.semantics.specs.Effect.{Outcome, opened, begun}
+use Rattle.semantics.specs.Effect.{Outcome, opened}
 use Rattle.semantics.specs.Laws.{Precedes}
 use Rattle.semantics.specs.Lists.{first_of}
 use Rattle.semantics.specs.Puts.{put_clock, committed, put_thread, put_home, put_value, put_counts, marked}
 use Rattle.semantics.specs.Refusals.{Test, refusals}
-use Rattle.semantics.specs.State.{State, Thread, thread_of, home_of}
+use Rattle.semantics.specs.State.{State, Thread, home_of}
 use Rattle.thread.specs.declared.row.ThreadRow.{ThreadRow}
 use Rattle.thread.specs.Performing.{with_epoch}
 use Rattle.thread.specs.Tests.{advance_tests, commit_tests, begin_tests, committed_row}

@@ -1,9 +1,9 @@
 -- What an end answers and leaves. Assumes nothing.
-use Rattle.std.proofs.Common.{◌≡◌, ℕ, ◌+◌, ◌<◌, ◌≤◌, eqb, leb, List, [], ◌∷◌, ◌++◌, map, length, get_or, take, set, Some, None, sym, refl, ap, ◌∙◌, subst, arith}
+use Rattle.std.proofs.Common.{◌≡◌, ℕ, ◌+◌, ◌<◌, ◌≤◌, eqb, leb, List, [], ◌∷◌, ◌++◌, map, length, get_or, take, set, Some, None, sym, ap, ◌∙◌, subst, arith}
 use Rattle.std.proofs.lemmas.List.{length-take, length-map, get_or-take, take_more_set, map_push}
 use Rattle.std.proofs.lemmas.Bool.{eqb-true, le-leb, lt-leb}
 use Rattle.rows.specs.Found.{Found}
-use Rattle.rows.proofs.Counted.{found_passes, row_read, below_count}
+use Rattle.rows.proofs.Counted.{found_passes, below_count}
 use Rattle.semantics.specs.declared.row.Ended.{Ended}
 use Rattle.semantics.specs.declared.row.Epoch.{Epoch}
 use Rattle.semantics.specs.declared.verdict.Conviction.{Conviction}
@@ -16,7 +16,7 @@ use Rattle.semantics.specs.Laws.{Precedes, end_laws}
 use Rattle.semantics.specs.Lists.{first_of}
 use Rattle.semantics.specs.Puts.{convict}
 use Rattle.semantics.specs.Refusals.{Test, refusals}
-use Rattle.semantics.specs.State.{State, Thread, thread_of, epoch_at}
+use Rattle.semantics.specs.State.{State, Thread, epoch_at}
 use Rattle.semantics.specs.Step.{step}
 use Rattle.thread.specs.declared.row.ThreadRow.{ThreadRow}
 use Rattle.thread.specs.declared.span.Span.{Span}

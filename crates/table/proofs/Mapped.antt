@@ -1,5 +1,5 @@
 -- Lookups and removals in rows, read as plain rows. Assumes nothing.
-use Rattle.std.proofs.Common.{◌≡◌, ℕ, ◌<◌, ◌≤◌, Bool, true, false, cond, not, List, [], ◌∷◌, map, drop, Some, None, Option, sym, refl, ap, ◌∙◌, subst}
+use Rattle.std.proofs.Common.{◌≡◌, Bool, true, false, cond, List, [], ◌∷◌, map, Some, None, Option, refl, ap}
 use Rattle.semantics.specs.Lists.{find, keep}
 use Rattle.semantics.specs.Lists
 

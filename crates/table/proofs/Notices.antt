@@ -1,11 +1,10 @@
 -- What becomes of notices. Assumes nothing.
-use Rattle.std.proofs.Common.{◌≡◌, ℕ, ◌+◌, ◌-◌, ◌<◌, ◌≤◌, min, Bool, true, false, cond, not, eqb, leb, ◌⊎◌, List, [], ◌∷◌, ◌++◌, map, length, get_or, take, Some, None, Option, sym, refl, ap, ◌∙◌, subst, inl, inr, arith}
-use Rattle.std.proofs.lemmas.List.{length-take, length-map, get_or-take}
+use Rattle.std.proofs.Common.{◌≡◌, ℕ, ◌+◌, ◌<◌, ◌≤◌, Bool, true, false, cond, not, eqb, leb, ◌⊎◌, List, [], ◌∷◌, map, length, get_or, take, Some, None, sym, refl, ap, ◌∙◌, inl, inr, arith}
+use Rattle.std.proofs.lemmas.List.{length-take, length-map}
 use Rattle.std.proofs.lemmas.Bool.{le-leb, lt-leb}
 use Rattle.queue.proofs.Sorts.{length_sorted}
 use Rattle.queue.specs.Order
-use Rattle.rows.specs.Found.{Found}
-use Rattle.rows.proofs.Counted.{whole, row_read}
+use Rattle.rows.proofs.Counted.{row_read}
 use Rattle.semantics.specs.declared.row.Ended.{Ended}
 use Rattle.semantics.specs.declared.verdict.Conviction.{Conviction}
 use Rattle.semantics.specs.declared.verdict.Law.TheVariants.{Dropped}

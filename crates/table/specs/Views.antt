@@ -1,10 +1,10 @@
 -- What a table means, what its answers say, and what its checks find. Assumes nothing.
-use Rattle.std.specs.Prelude.{◌≡◌, ℕ, ◌<◌, ◌≤◌, List, [], ◌∷◌, ◌++◌, map, length, take, Some, None, Ok, Err, Result, nat_eq}
+use Rattle.std.specs.Prelude.{◌≡◌, ℕ, ◌<◌, ◌≤◌, List, ◌∷◌, ◌++◌, map, length, take, Some, None, Ok, Err, Result, nat_eq}
 use Rattle.queue.specs.Order.{sorted}
 use Rattle.rows.specs.Found.{Found}
 use Rattle.semantics.specs.declared.row.Operation.{Operation}
 use Rattle.semantics.specs.declared.verdict.Refusal.{Refusal}
-use Rattle.semantics.specs.Calls.{Call, perform, end, Answer, taken, refused, convicted}
+use Rattle.semantics.specs.Calls.{Call, perform, end, Answer, refused, convicted}
 use Rattle.semantics.specs.Effect.{Outcome}
 use Rattle.semantics.specs.Laws.{Precedes}
 use Rattle.semantics.specs.Lists.{first_of}

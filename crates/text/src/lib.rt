@@ -1,4 +1,6 @@
 // A whole trace: its headings, its setup and its events, read up to the first fault.
+#![tactic(auto)]
+
 pub mod fault;
 pub mod limits;
 mod lines;

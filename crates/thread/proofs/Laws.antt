@@ -1,10 +1,10 @@
 -- The laws of a perform, by what lookups found. Assumes nothing.
-use Rattle.std.proofs.Common.{◌≡◌, ℕ, ◌<◌, ◌≤◌, Bool, true, false, cond, not, ◌&&◌, ◌||◌, eqb, ltb, List, [], ◌∷◌, ◌++◌, length, get_or, Some, None, Option, sym, refl, ap, ◌∙◌, subst}
+use Rattle.std.proofs.Common.{◌≡◌, ℕ, Bool, true, false, cond, not, ◌&&◌, ◌||◌, eqb, ltb, List, [], ◌∷◌, Some, None, Option, sym, refl, ap, ◌∙◌}
 use Rattle.std.proofs.lemmas.Bool.{true≢false}
-use Rattle.rows.specs.Found.{Found, FoundLast}
+use Rattle.rows.specs.Found.{Found}
 use Rattle.rows.proofs.Lookups.{find_keep, keep_keep}
 use Rattle.semantics.specs.declared.class.OpClass.{OpClass}
-use Rattle.semantics.specs.declared.class.OpClass.TheVariants.{Load, Store, Barrier}
+use Rattle.semantics.specs.declared.class.OpClass.TheVariants.{Load, Store}
 use Rattle.semantics.specs.declared.row.Operation.{Operation}
 use Rattle.semantics.specs.declared.row.Epoch.{Epoch}
 use Rattle.semantics.specs.declared.verdict.Conviction.{Conviction}
@@ -16,7 +16,7 @@ use Rattle.semantics.specs.Lists.{is_some, find, keep, last_of, change, first_so
 use Rattle.semantics.specs.State.{Thread, epoch_at}
 use Rattle.thread.specs.declared.served.Performed.TheVariants.{Done, Forwarded, Copied}
 use Rattle.thread.specs.declared.served.Served.{Served}
-use Rattle.thread.specs.Performing.{no_epoch, epoch_in, value_put, leave_laws, used_at, Serves, Sourced}
+use Rattle.thread.specs.Performing.{no_epoch, epoch_in, value_put, leave_laws, Serves, Sourced}
 
 -- The tests of the lookups.
 abbrev pub shares_place : Operation → Operation → Bool

@@ -1,8 +1,7 @@
 -- Refusal tests in turn. Assumes nothing.
-use Rattle.std.proofs.Common.{◌≡◌, ℕ, ◌<◌, ◌≤◌, Bool, true, false, cond, not, eqb, ltb, leb, List, [], ◌∷◌, ◌++◌, length, Some, None, Option, sym, refl, ap, ◌∙◌, arith}
+use Rattle.std.proofs.Common.{◌≡◌, ℕ, ◌<◌, ◌≤◌, Bool, true, false, cond, not, eqb, ltb, leb, List, [], ◌∷◌, length, Some, None, ap, ◌∙◌, arith}
 use Rattle.std.proofs.lemmas.Bool.{le-ltb}
 use Rattle.rows.specs.Found.{Found}
-use Rattle.semantics.specs.declared.row.Epoch.{Epoch}
 use Rattle.semantics.specs.declared.row.Operation.{Operation}
 use Rattle.semantics.specs.declared.verdict.Refusal.{Refusal}
 use Rattle.semantics.specs.declared.verdict.Refusal.TheVariants.{UnknownClass, UnknownPlace, PastTime, NotOutstanding, AlreadyBegun, NotOpen, Over}

@@ -1,11 +1,11 @@
 -- What a perform and an end find in a thread, and what they leave. Assumes nothing.
-use Rattle.std.specs.Prelude.{◌≡◌, ℕ, ◌<◌, ◌≤◌, Bool, true, false, cond, not, ◌&&◌, List, [], ◌∷◌, ◌++◌, length, Some, None, Option, ◌==◌, nat_eq, slice_index_or, slice_set}
+use Rattle.std.specs.Prelude.{◌≡◌, ℕ, ◌<◌, false, cond, not, List, [], ◌∷◌, ◌++◌, length, Some, None, Option, ◌==◌, nat_eq, slice_index_or, slice_set}
 use Rattle.semantics.specs.declared.row.Operation.{Operation}
 use Rattle.semantics.specs.declared.row.Epoch.{Epoch}
 use Rattle.semantics.specs.declared.verdict.Conviction.{Conviction}
 use Rattle.semantics.specs.Classes.{puts}
 use Rattle.semantics.specs.Effect.{touch, touched, answer_of, load_answer}
-use Rattle.semantics.specs.Laws.{Precedes, forwarded, source, law23, law24, perform_laws, end_laws}
+use Rattle.semantics.specs.Laws.{forwarded, source, law23, law24, end_laws}
 use Rattle.semantics.specs.Lists.{is_some, first_some, keep, change}
 use Rattle.semantics.specs.Puts.{put_clock, put_pending, put_epochs}
 use Rattle.semantics.specs.State.{Thread}

@@ -22,7 +22,7 @@ impl Begins for Epoch {
 
 // The least of a time and the begins of some rows.
 pub fn least_begin<T: Begins>(rows: &[T], time: u64) -> u64
-    ensures { result ≡ least time (map begins rows.now) }
+    ensures { result ≡ least time (map T.begins rows.now) }
 {
     let mut least = time;
     for row in rows {

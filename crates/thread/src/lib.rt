@@ -1,4 +1,6 @@
 // What a watch keeps of a thread: its clock, its outstanding operations and its open epochs.
+#![tactic(auto)]
+
 pub mod begins;
 pub mod limits;
 pub mod matching;

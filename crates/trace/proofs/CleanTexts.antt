@@ -17,17 +17,16 @@ use Rattle.semantics.specs.Refusals.{refusals, making_checks}
 use Rattle.semantics.specs.State.{State, made}
 use Rattle.semantics.specs.Step.{answered, step}
 use Rattle.semantics.specs.Trace.{Trace, met_with, follow, is_clean, says_clean}
-use Rattle.consistency.specs.Consistent.{Consistent}
 use Rattle.consistency.proofs.Clean.{clean_is_consistent}
 use Rattle.semantics.proofs.Followed.{follows}
 use Rattle.table.specs.declared.fault.Fault.{Fault}
 use Rattle.setup.specs.declared.setup.Setup.{Setup}
-use Rattle.text.specs.Texts.{Reading, done, fault, sets, tells, reading, wrong, over, closes, told, closed, events, event_at, onward, from_names, heading, setup, later}
+use Rattle.text.specs.Texts.{Reading, done, sets, tells, reading, wrong, over, closes, told, events, event_at, onward, from_names, heading, setup, later}
 use Rattle.trace.specs.declared.fault.RunFault.{RunFault}
-use Rattle.trace.specs.Plays.{Played, fault_in, first, once, reported_again, reported, reporting, ended, played}
+use Rattle.trace.specs.Plays.{Played, fault_in, reported_again, reported, ended, played}
 use Rattle.trace.specs.Runs
 use Rattle.trace.specs.Runs.{run, calls, while_taken, set_rule, made_by, run_all, run_text, written_trace}
-use Rattle.trace.specs.Promises.{ConsistentText, ConsistentIfClean, CleanTextIsConsistent}
+use Rattle.trace.specs.Promises.{ConsistentIfClean, CleanTextIsConsistent}
 
 -- Calls one after another make one trace.
 follow_more : (R : Rule) (xs ys : List Call) (tr : Trace) (s : State) → follow R (xs ++ ys) tr s ≡ follow R ys (follow R xs tr s).0 (follow R xs tr s).1

@@ -1,5 +1,5 @@
 -- What the run of a whole text comes to. Assumes nothing.
-use Rattle.std.specs.Prelude.{ℕ, List, [], ◌∷◌, ◌++◌, Some, None, Ok, Err, Option, Result}
+use Rattle.std.specs.Prelude.{ℕ, List, [], ◌++◌, Some, None, Ok, Err, Option, Result}
 use Rattle.line.specs.declared.fault.Garbled.TheVariants as garbled
 use Rattle.ordering.specs.Named.{named_orders}
 use Rattle.ordering.specs.declared.named.NamedRule.{NamedRule}

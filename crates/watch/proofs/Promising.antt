@@ -1,10 +1,7 @@
 -- The promises of the calls, from what the table's calls do. Assumes nothing.
-use Rattle.std.proofs.Common.{◌≡◌, ℕ, ◌+◌, ◌≤◌, Bool, true, false, cond, ◌||◌, [], ◌∷◌, sym, refl, ap, ◌∙◌, subst, arith}
-use Rattle.std.proofs.lemmas.Bool.{true≢false}
-use Rattle.semantics.specs.declared.verdict.Verdict.{Verdict}
-use Rattle.semantics.specs.declared.verdict.Verdict.TheVariants.{Running, Clean, Guilty}
+use Rattle.std.proofs.Common.{◌≡◌, ℕ, ◌+◌, ◌≤◌, Bool, true, false, cond, ◌||◌, [], ◌∷◌, sym, refl, ap, subst, arith}
+use Rattle.semantics.specs.declared.verdict.Verdict.TheVariants.{Clean}
 use Rattle.semantics.specs.Calls.{Call, close, Answer}
-use Rattle.semantics.specs.Calls
 use Rattle.semantics.specs.Effect.{Outcome}
 use Rattle.semantics.specs.Laws.{Rule, by_rule}
 use Rattle.semantics.specs.State.{State}
@@ -17,8 +14,8 @@ use Rattle.consistency.proofs.Verdicts.{TellsBy, tells}
 use Rattle.honest.specs.Honest.{HonestCall, HonestClose}
 use Rattle.honest.proofs.AtOneCall.{honest_call, honest_close}
 use Rattle.table.specs.Views.{Meets}
-use Rattle.watch.specs.Promises.{Accounted, ShownClean, Promised, ClosePromised, Counted, Concluded}
-use Rattle.watch.specs.Took.{Held, event}
+use Rattle.watch.specs.Promises.{Accounted, ShownClean, Promised, ClosePromised, Concluded}
+use Rattle.watch.specs.Took.{event}
 use Rattle.watch.proofs.Taking.{grows}
 
 pub accounted : (R : Rule) (n : ℕ) (tr : Trace) (s : State) → Follows R n tr s → Accounted tr s

@@ -1,5 +1,5 @@
 -- What a call of the table says of the watch. Assumes nothing.
-use Rattle.std.proofs.Common.{◌≡◌, ℕ, ◌-◌, ◌≤◌, ◌∷◌, sym, refl, ap, ◌∙◌, subst, arith}
+use Rattle.std.proofs.Common.{◌≡◌, ℕ, ◌∷◌, sym, refl, ap, ◌∙◌, subst, arith}
 use Rattle.semantics.specs.Asking.{WithinLeeway, free_places}
 use Rattle.semantics.specs.Calls.{Call, Answer}
 use Rattle.semantics.specs.Effect.{Outcome}
@@ -8,7 +8,7 @@ use Rattle.semantics.specs.State.{State, Thread}
 use Rattle.semantics.specs.Trace.{Trace, Follows, met}
 use Rattle.consistency.proofs.Refused.{refused_changes_nothing}
 use Rattle.table.specs.Views.{Meets}
-use Rattle.watch.specs.Took.{Held, Took, event}
+use Rattle.watch.specs.Took.{Took, event}
 
 module _ (R : Rule) (s : State) (c : Call) (a : Answer) (s' : State) (m : Meets (by_rule R) s c a s') where
   pub grows : (n : ℕ) (tr : Trace) → Follows R n tr s → Follows R n (event c a ∷ tr) s'

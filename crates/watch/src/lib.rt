@@ -1,4 +1,6 @@
 // The watch: a rule and a table, its calls, and what it promises.
+#![tactic(auto)]
+
 pub mod notice;
 pub mod threads;
 pub mod watch;

@@ -1,7 +1,6 @@
 -- The reader tells the setup and then the events, which the watch is played.
 use Rattle.std.proofs.Common.{◌≡◌, sym, ap, ◌∙◌}
-use Rattle.text.specs.Texts.{sets, reading}
-use Rattle.text.specs.Readers.{left}
+use Rattle.text.specs.Texts.{sets}
 use Rattle.trace.specs.Runs.{run_text}
 use Rattle.trace.proofs.RunTexts.{ran, carries}
 use Rattle.trace.proofs.run.run_text.Goals as goal

@@ -1,11 +1,7 @@
-use Rattle.std.proofs.Common.{ap, ◌∙◌}
-use Rattle.queue.proofs.Totals.{says}
-use Rattle.semantics.specs.Judging.{ended_le}
-use Rattle.ended.specs.Plain.{plain}
-use Rattle.ended.specs.Orders.{by_fields}
+-- What the order of judging says of the answer.
+use Rattle.std.proofs.Common.{rules}
+use Rattle.ended.specs.Orders.{row_says}
 use Rattle.ended.proofs.order.EndedRowOrd.cmp.Goals as goal
 
-pub returns : goal.returns
-returns c =
-    says by_fields c.plain.result c.plain-2.result c.cmp.result c.cmp.ensures
-    ∙ ap (λ e. ended_le e c.plain-2.result) c.plain.ensures ∙ ap (ended_le (plain c.args.self.now)) c.plain-2.ensures
+pub returns-clause-says : goal.returns-clause-says
+returns-clause-says c = row_says c.args.self.now c.args.other.now c.cmp.result (search rules)

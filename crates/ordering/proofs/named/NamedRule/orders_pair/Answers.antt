@@ -12,8 +12,8 @@ use Rattle.ordering.proofs.Matrix.{matrix_at}
 use Rattle.ordering.proofs.named.NamedRule.orders_pair.Goals as goal
 
 -- The rules in the order of the table's rows.
-abbrev rules : List NamedRule
-rules = Sc ∷ Tso ∷ Pso ∷ Rmo ∷ []
+abbrev rows : List NamedRule
+rows = Sc ∷ Tso ∷ Pso ∷ Rmo ∷ []
 
 -- The pairs in the order of the table's columns.
 abbrev pairs : List Pair
@@ -24,6 +24,6 @@ pub returns : goal.returns
 returns c =
     record {
       answer =
-          matrix_at orders_pair rules pairs (tag_of rule_type c.args.self) (tag_of pair_type c.args.pair) c.args.self c.args.pair
+          matrix_at orders_pair rows pairs (tag_of rule_type c.args.self) (tag_of pair_type c.args.pair) c.args.self c.args.pair
           (search rules) (search rules) (search rules) (search rules);
     }

@@ -1,4 +1,4 @@
-use Rattle.std.proofs.Common.{◌≡◌, map, drop, sym, refl, ap, ◌∙◌, arith}
+use Rattle.std.proofs.Common.{map, drop, sym, ap, arith}
 use Rattle.std.proofs.lemmas.List.{set_past}
 use Rattle.ended.specs.Plain.{plain}
 use Rattle.table.specs.Views.{view}

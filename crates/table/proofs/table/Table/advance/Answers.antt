@@ -3,7 +3,6 @@ use Rattle.std.proofs.lemmas.List.{length-set}
 use Rattle.std.proofs.lemmas.Result.{err_from_is_err_and}
 use Rattle.semantics.specs.Calls
 use Rattle.semantics.specs.Lists.{first_of}
-use Rattle.thread.specs.declared.row.ThreadRow.{ThreadRow}
 use Rattle.thread.specs.Tests.{advance_tests}
 use Rattle.thread.specs.View.{view_thread}
 use Rattle.table.specs.Views.{view}

@@ -1,4 +1,4 @@
-use Rattle.std.proofs.Common.{◌≡◌, sym}
+use Rattle.std.proofs.Common.{sym}
 use Rattle.table.proofs.Ends.{length_owed}
 use Rattle.table.proofs.Notices.{length_waiting}
 use Rattle.table.proofs.table.Table.counts.Goals as goal

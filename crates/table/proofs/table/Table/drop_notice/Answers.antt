@@ -1,4 +1,4 @@
-use Rattle.std.proofs.Common.{◌≡◌, get_or, take, Ok, Err, sym, refl, ap, ◌∙◌, subst, arith}
+use Rattle.std.proofs.Common.{Err, ap, arith}
 use Rattle.rows.proofs.Counted.{shorter}
 use Rattle.semantics.specs.Calls
 use Rattle.table.specs.Views.{view, told}

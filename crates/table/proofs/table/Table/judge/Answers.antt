@@ -1,4 +1,4 @@
-use Rattle.std.proofs.Common.{◌≡◌, drop, sym, refl, ap, ◌∙◌, arith}
+use Rattle.std.proofs.Common.{drop, sym, ap, ◌∙◌, arith}
 use Rattle.semantics.specs.Judging.{home_laws}
 use Rattle.ended.specs.Plain.{plain}
 use Rattle.table.specs.Views.{view}

@@ -1,5 +1,4 @@
 use Rattle.std.proofs.Common.{arith}
-use Rattle.std.proofs.lemmas.Result.{err_from_is_err_and}
 use Rattle.table.proofs.Notices.{may_report, waits_too_many}
 use Rattle.table.proofs.table.Table.may_report.Goals as goal
 

@@ -1,4 +1,4 @@
-use Rattle.std.proofs.Common.{◌≡◌, List, refl, ap, arith}
+use Rattle.std.proofs.Common.{List, refl, ap, arith}
 use Rattle.semantics.specs.State.{Thread, made}
 use Rattle.table.proofs.Making.{idle_threads, none_open}
 use Rattle.table.proofs.Rows.{with_threads}

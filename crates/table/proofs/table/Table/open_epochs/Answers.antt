@@ -1,4 +1,4 @@
-use Rattle.std.proofs.Common.{◌≡◌, get_or, sym, refl, ap, ◌∙◌, arith}
+use Rattle.std.proofs.Common.{get_or, arith}
 use Rattle.table.proofs.Making.{open_more, open_all}
 use Rattle.table.proofs.table.Table.open_epochs.Goals as goal
 

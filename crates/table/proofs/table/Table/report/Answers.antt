@@ -1,8 +1,7 @@
-use Rattle.std.proofs.Common.{◌≡◌, get_or, take, sym, refl, ap, ◌∙◌, subst, arith}
+use Rattle.std.proofs.Common.{get_or, sym, subst, arith}
 use Rattle.queue.specs.Order.{Heap}
 use Rattle.rows.proofs.Counted.{shorter}
 use Rattle.ended.specs.Plain.{row_le}
-use Rattle.table.specs.Views.{view}
 use Rattle.table.proofs.Notices.{numbered, no_row, owed_without, waits_more, reports}
 use Rattle.table.proofs.table.Table.report.Goals as goal
 

@@ -1,4 +1,4 @@
-use Rattle.std.proofs.Common.{◌≡◌, sym, ap, ◌∙◌, arith}
+use Rattle.std.proofs.Common.{sym, ap, ◌∙◌, arith}
 use Rattle.semantics.specs.Lists.{least, flat}
 use Rattle.semantics.specs.State.{Thread}
 use Rattle.thread.specs.View.{thread_times}

@@ -1,4 +1,4 @@
-use Rattle.std.proofs.Common.{◌≡◌, refl, ◌∙◌, arith}
+use Rattle.std.proofs.Common.{refl, ◌∙◌, arith}
 use Rattle.table.proofs.Making.{spare_of}
 use Rattle.table.proofs.Rows.{length_threads}
 use Rattle.table.proofs.table.Table.spare.Goals as goal

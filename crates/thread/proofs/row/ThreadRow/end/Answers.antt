@@ -1,4 +1,4 @@
-use Rattle.std.proofs.Common.{◌≡◌, not, eqb, List, refl, ap, ◌∙◌, arith}
+use Rattle.std.proofs.Common.{not, eqb, List, ap, ◌∙◌, arith}
 use Rattle.rows.proofs.Counted.{shorter}
 use Rattle.semantics.specs.declared.row.Epoch.{Epoch}
 use Rattle.semantics.specs.State.{Thread}

@@ -1,4 +1,4 @@
-use Rattle.std.proofs.Common.{◌≡◌, Some, None, sym, ap}
+use Rattle.std.proofs.Common.{◌≡◌, Some, None, sym}
 use Rattle.rows.proofs.Counted.{whole, found_row}
 use Rattle.semantics.specs.Lists.{find}
 use Rattle.thread.specs.View.{view_thread}

@@ -1,4 +1,4 @@
-use Rattle.std.proofs.Common.{◌≡◌, Some, ap, ◌∙◌}
+use Rattle.std.proofs.Common.{Some, ap, ◌∙◌}
 use Rattle.rows.proofs.Counted.{row_read}
 use Rattle.thread.specs.View.{view_thread}
 use Rattle.thread.proofs.Tests.{performs_free}

@@ -1,10 +1,9 @@
-use Rattle.std.proofs.Common.{◌≡◌, ◌≤◌, get_or, take, Some, None, sym, refl, ap, ◌∙◌, subst, arith}
+use Rattle.std.proofs.Common.{◌≤◌, get_or, take, sym, refl, ap, ◌∙◌, subst, arith}
 use Rattle.std.proofs.lemmas.List.{get_or-take, length-take}
 use Rattle.semantics.specs.declared.row.Epoch.{Epoch}
 use Rattle.semantics.specs.Laws.{end_laws}
 use Rattle.thread.specs.Begun.{begun_by}
-use Rattle.thread.specs.Performing.{no_epoch, epoch_in}
-use Rattle.thread.specs.View.{view_thread}
+use Rattle.thread.specs.Performing.{no_epoch}
 use Rattle.thread.proofs.Begun.{all_at, begun_before_use}
 use Rattle.thread.proofs.Ends.{ends_early, ends_wrong, ends_lawful}
 use Rattle.thread.proofs.row.ThreadRow.span.Goals as goal

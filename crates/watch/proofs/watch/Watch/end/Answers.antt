@@ -1,7 +1,7 @@
 use Rattle.std.proofs.lemmas.Result.{err_from_is_err_and}
 use Rattle.semantics.specs.Calls
 use Rattle.semantics.specs.Laws.{by_rule}
-use Rattle.table.specs.Views.{view, fault_says}
+use Rattle.table.specs.Views.{view}
 use Rattle.watch.proofs.Promising.{promised}
 use Rattle.watch.proofs.Taking.{took}
 use Rattle.watch.proofs.watch.Watch.end.Goals as goal
