@@ -1,5 +1,5 @@
 -- A row's fields in turn make a total order that a derived `cmp` answers by. Assumes nothing.
---     whole (next number first-field (next flag second-field (last number third-field))) all-same
+--     whole (next number first_field (next flag second_field (last number third_field))) all_same
 use Rattle.std.proofs.Common.{◌≡◌, ◌<◌, Bool, true, false, cond, leb, ◌⊎◌, Ordering, Less, Equal, Greater, sym, refl, ap, ◌∙◌, subst, inl, inr, true≢false, arith}
 use Rattle.std.proofs.lemmas.Bool.Decides.{nat_tests}
 use Rattle.std.specs.Cmp.{ranks}
