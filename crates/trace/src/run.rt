@@ -27,10 +27,10 @@ const NAMES_LINE: u64 = 3;
 const SETUP_LINE: u64 = 2;
 
 // The result of a call with the line of the call.
-fn at<T>(line: u64, res: Result<T, Fault>) -> Result<T, CallFault>
-    ensures { result ≡ at_line line res }
+fn at<T>(line: u64, answer: Result<T, Fault>) -> Result<T, CallFault>
+    ensures { result ≡ at_line line answer }
 {
-    match res {
+    match answer {
         Ok(x) => Ok(x),
         Err(fault) => Err(CallFault { line, fault }),
     }
