@@ -1,4 +1,7 @@
 // What limits, faults of a text, and some refusals and laws mean in words.
+ghost use Rattle.std.specs.Prelude.{◌≡◌};
+ghost use Rattle.sentence.specs.Words.{lack_text, kinds_text, begun_text, limit_text, fault_text};
+
 use event::event::Event;
 use explain::parts::Operation;
 use line::fault::Garbled;
@@ -6,7 +9,9 @@ use ordering::class::Class;
 use semantics::verdict::Limit;
 
 // What an operation without leave lacks.
-pub fn lack_words(operation: Operation) -> &'static str {
+pub fn lack_words(operation: Operation) -> &'static str
+    ensures { result.now ≡ lack_text operation }
+{
     let Some(commit) = operation.commit else {
         return "it has no leave on";
     };
@@ -18,7 +23,9 @@ pub fn lack_words(operation: Operation) -> &'static str {
 }
 
 // What the third number of the event has to be.
-pub fn kinds_words(call: Option<Event>) -> &'static str {
+pub fn kinds_words(call: Option<Event>) -> &'static str
+    ensures { result.now ≡ kinds_text call }
+{
     match call {
         Some(Event::Begin { .. }) => "kind of epochs: they are 0 and 1",
         _ => "class of operations: they are 0 to 17",
@@ -26,7 +33,9 @@ pub fn kinds_words(call: Option<Event>) -> &'static str {
 }
 
 // What has begun too early for the event.
-pub fn begun_words(call: Option<Event>) -> &'static str {
+pub fn begun_words(call: Option<Event>) -> &'static str
+    ensures { result.now ≡ begun_text call }
+{
     match call {
         Some(Event::Preset { .. }) => "the preset comes after the first begin on",
         _ => "the thread has an epoch open already on",
@@ -34,7 +43,9 @@ pub fn begun_words(call: Option<Event>) -> &'static str {
 }
 
 // What a limit bounds.
-pub fn limit_words(limit: Limit) -> &'static str {
+pub fn limit_words(limit: Limit) -> &'static str
+    ensures { result.now ≡ limit_text limit }
+{
     match limit {
         Limit::Outstanding => "a thread has at most 64 operations outstanding",
         Limit::Commits => "a thread commits at most 1000000 operations",
@@ -46,7 +57,9 @@ pub fn limit_words(limit: Limit) -> &'static str {
 }
 
 // What is wrong with a text.
-pub fn fault_words(what: Garbled) -> &'static str {
+pub fn fault_words(what: Garbled) -> &'static str
+    ensures { result.now ≡ fault_text what }
+{
     match what {
         Garbled::TextLength => "the text has more than 65536 bytes",
         Garbled::LineLength =>
