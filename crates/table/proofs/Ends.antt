@@ -30,6 +30,7 @@ use Rattle.table.specs.declared.table.Table.{Table}
 use Rattle.table.specs.Opens.{opens}
 use Rattle.table.specs.Views.{view, Meets, Known, MayEnd}
 use Rattle.table.proofs.Answers.{takes, tested, first_later, first_earlier}
+use Rattle.table.proofs.Carried.{Carries, with_row}
 use Rattle.table.proofs.Rows.{row_at, same_row, in_count, opens_set}
 
 pub length_owed : (s : Table) → length (view s).owed ≡ s.owing
@@ -110,6 +111,10 @@ opens_ended s t p τ row i d w m h =
     let o = opens_set s row w d (in_count s t row m.thread) in
     let e = s.ends_fit in
     omega arith
+
+-- What the table carries then, before the end is counted and after.
+pub with_ended_row : (s : Table) (t p τ row i : ℕ) (d w : ThreadRow) → MayEnd s t p τ row i → w.held + 1 ≤ (get_or s.threads row d).held → (n : ℕ) → s.ends ≤ n → n ≤ s.ends + 1 → Carries s (set s.threads row w) n
+with_ended_row s t p τ row i d w m h n l g = let o = opens_ended s t p τ row i d w m h in with_row s row w n l (omega arith)
 
 -- The epoch as its row is read, and as the state has it.
 pub epoch_read : (s : Table) (t p τ row i : ℕ) (d e : ThreadRow) → MayEnd s t p τ row i → get_or (get_or s.threads row d).epochs i no_epoch ≡ epoch_in (view_thread (get_or s.threads row e)) i

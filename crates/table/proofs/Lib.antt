@@ -8,3 +8,4 @@ pub mod Notices
 pub mod Judgings
 pub mod Settling
 pub mod Making
+pub mod Carried

@@ -4,7 +4,7 @@ use Rattle.std.proofs.lemmas.List.{length-take, length-map}
 use Rattle.std.proofs.lemmas.Bool.{le-leb, lt-leb}
 use Rattle.queue.proofs.Sorts.{length_sorted}
 use Rattle.queue.specs.Order
-use Rattle.rows.proofs.Counted.{row_read}
+use Rattle.rows.proofs.Counted.{row_read, shorter}
 use Rattle.semantics.specs.declared.row.Ended.{Ended}
 use Rattle.semantics.specs.declared.verdict.Conviction.{Conviction}
 use Rattle.semantics.specs.declared.verdict.Law.TheVariants.{Dropped}
@@ -48,6 +48,13 @@ owed_none s n e = find_map plain (λ e. eqb e.number n) (take s.owing s.owed) �
 
 pub owed_without : (s : Table) (n k : ℕ) (rows : List EndedRow) → take k rows ≡ keep (λ e. not (numbered n e)) (take s.owing s.owed) → map plain (take k rows) ≡ without n (view s).owed
 owed_without s n k rows e = ap (map plain) e ∙ sym (keep_map plain (λ e. not (eqb e.number n)) (take s.owing s.owed))
+
+-- One row fewer is owed.
+pub owed_less : (s : Table) (n i k : ℕ) (rows : List EndedRow) → Owes s n i → k ≤ s.owing → length rows ≡ length s.owed → take k rows ≡ keep (λ e. not (numbered n e)) (take s.owing s.owed) → (length rows ≡ 32) × (k + 1 ≤ s.owing)
+owed_less s n i k rows o m l e =
+    let w = s.owed_long in
+    let f = s.owing_fits in
+    (omega arith, shorter (numbered n) s.owing k s.owed rows _ (omega arith) (omega arith) (o.here no_row) e)
 
 pub drop_free : (s : Table) (n i : ℕ) → Owes s n i → first_of (refusals (view s) (drop n)) ≡ None
 drop_free s n i f = skip (not (is_some (owed_as (view s) n))) NotOwed [] (ap (λ x. not (is_some x)) (owed_row s n i no_row f))

@@ -1,5 +1,4 @@
-use Rattle.std.proofs.Common.{◌≡◌, None, refl, ◌∙◌, subst, arith}
-use Rattle.std.proofs.lemmas.List.{length-set}
+use Rattle.std.proofs.Common.{◌≡◌, None, refl, ◌∙◌, subst}
 use Rattle.std.proofs.lemmas.Result.{err_from_is_err_and}
 use Rattle.semantics.specs.Calls
 use Rattle.semantics.specs.Lists.{first_of}
@@ -8,7 +7,8 @@ use Rattle.thread.specs.View.{view_thread}
 use Rattle.table.specs.Views.{view}
 use Rattle.table.proofs.Answers.{refuses, leaves, tested}
 use Rattle.table.proofs.Calls.{advances}
-use Rattle.table.proofs.Rows.{put_row, opens_same, in_count, same_row}
+use Rattle.table.proofs.Rows.{put_row, in_count, same_row}
+use Rattle.table.proofs.Carried.{with_same_row}
 use Rattle.table.proofs.table.Table.advance.Goals as goal
 
 pub returns-in_err-may_advance : goal.returns-in_err-may_advance
@@ -19,25 +19,7 @@ returns-in_err-may_advance c B =
     rw (p.1, p.2) (refuses B (view s) (Calls.advance a.thread a.time) _ (tested s a.thread c.in_ok-t.t c.index-self-t.result (advance_tests a.time) c.in_ok-t.ensures ∙ c.in_err-may_advance.ensures))
 
 pub invariant_of-self : goal.invariant_of-self
-invariant_of-self c =
-    let s = c.args.self.now in
-    let t = c.in_ok-t.t in
-    let row = c.raise.new.self in
-    let o = opens_same s t row c.index-self-t-2.result (in_count s c.args.thread t c.in_ok-t.ensures) c.raise.ensures.held in
-    record {
-      threads_long = length-set s.threads t row ∙ s.threads_long;
-      count_fits = s.count_fits;
-      count_some = s.count_some;
-      homes_long = s.homes_long;
-      owed_long = s.owed_long;
-      owing_fits = s.owing_fits;
-      waiting_long = s.waiting_long;
-      queued_fits = s.queued_fits;
-      heaped = s.heaped;
-      begins_fit = s.begins_fit;
-      ends_fit = let e = s.ends_fit in omega arith;
-      accounts_fit = s.accounts_fit;
-    }
+invariant_of-self c = with_same_row c.args.self.now c.in_ok-t.t c.raise.new.self c.index-self-t-2.result (in_count c.args.self.now c.args.thread c.in_ok-t.t c.in_ok-t.ensures) c.raise.ensures.held
 
 pub returns : goal.returns
 returns c B =

@@ -1,9 +1,8 @@
 use Rattle.std.proofs.Common.{Err, ap, arith}
-use Rattle.rows.proofs.Counted.{shorter}
 use Rattle.semantics.specs.Calls
 use Rattle.table.specs.Views.{view, told}
 use Rattle.table.proofs.Answers.{leaves}
-use Rattle.table.proofs.Notices.{numbered, no_row, owed_without, drop_quietly, drop_convicts, not_guilty}
+use Rattle.table.proofs.Notices.{owed_less, owed_without, drop_quietly, drop_convicts, not_guilty}
 use Rattle.table.proofs.table.Table.drop_notice.Goals as goal
 
 pub invariant_of-self : goal.invariant_of-self
@@ -11,19 +10,15 @@ invariant_of-self c =
     let s = c.args.self.now in
     let k = c.in_ok-i.ensures in
     let r = c.remove-self in
-    let wl = s.owed_long in
-    let of = s.owing_fits in
-    let rf = r.ensures.bound in
-    let rk = r.auto.rows in
-    let h = shorter (numbered c.args.number) s.owing r.result s.owed r.new.rows _ (omega arith) (omega arith) (k.1.here no_row) r.ensures.rest in
-    let e = s.ends_fit in
+    let h = owed_less s c.args.number c.in_ok-i.i r.result r.new.rows k.1 r.ensures.bound r.auto.rows r.ensures.rest in
+    let o = s.owing_fits in
     let f = s.accounts_fit in
     record {
       threads_long = s.threads_long;
       count_fits = s.count_fits;
       count_some = s.count_some;
       homes_long = s.homes_long;
-      owed_long = omega arith;
+      owed_long = h.0;
       owing_fits = omega arith;
       waiting_long = s.waiting_long;
       queued_fits = s.queued_fits;

@@ -1,4 +1,4 @@
-use Rattle.std.proofs.Common.{get_or, Err, refl, ap, ◌∙◌, subst, arith}
+use Rattle.std.proofs.Common.{◌+◌, get_or, Err, refl, ap, ◌∙◌, subst, arith}
 use Rattle.std.proofs.lemmas.List.{length-set}
 use Rattle.semantics.specs.Calls
 use Rattle.thread.specs.declared.row.ThreadRow.{ThreadRow}
@@ -6,7 +6,7 @@ use Rattle.thread.specs.Performing.{no_epoch, epoch_in, Spans}
 use Rattle.thread.specs.View.{view_thread}
 use Rattle.table.specs.Views.{view, told}
 use Rattle.table.proofs.Answers.{leaves}
-use Rattle.table.proofs.Ends.{found_in, held_in, in_time, ends, end_convicts, ended_at, owed_plain, owed_more, opens_ended, epoch_read}
+use Rattle.table.proofs.Ends.{found_in, held_in, in_time, ends, end_convicts, ended_at, owed_plain, owed_more, opens_ended, with_ended_row, epoch_read}
 use Rattle.table.proofs.Rows.{same_row, threads_set}
 use Rattle.table.proofs.table.Table.end.Goals as goal
 
@@ -51,22 +51,7 @@ invariant_of-self c =
     let i = c.in_ok-t.i in
     let m = c.in_ok-t.ensures in
     let d = c.index-self-t-in-Ok-2.result in
-    let row = c.end.new.self in
-    let o = opens_ended s a.thread a.place a.time t i d row m (c.end.ensures.held i (found_in s a.thread a.place a.time t i d m)) in
-    record {
-      threads_long = length-set s.threads t row ∙ s.threads_long;
-      count_fits = s.count_fits;
-      count_some = s.count_some;
-      homes_long = s.homes_long;
-      owed_long = s.owed_long;
-      owing_fits = s.owing_fits;
-      waiting_long = s.waiting_long;
-      queued_fits = s.queued_fits;
-      heaped = s.heaped;
-      begins_fit = s.begins_fit;
-      ends_fit = omega arith;
-      accounts_fit = s.accounts_fit;
-    }
+    with_ended_row s a.thread a.place a.time t i d c.end.new.self m (c.end.ensures.held i (found_in s a.thread a.place a.time t i d m)) s.ends (omega arith) (omega arith)
 
 pub invariant_of-self-in-Ok : goal.invariant_of-self-in-Ok
 invariant_of-self-in-Ok c =
@@ -76,23 +61,7 @@ invariant_of-self-in-Ok c =
     let i = c.in_ok-t.i in
     let m = c.in_ok-t.ensures in
     let d = c.index-self-t-in-Ok-2.result in
-    let row = c.end.new.self in
-    let o = opens_ended s a.thread a.place a.time t i d row m (c.end.ensures.held i (found_in s a.thread a.place a.time t i d m)) in
-    let f = s.accounts_fit in
-    record {
-      threads_long = length-set s.threads t row ∙ s.threads_long;
-      count_fits = s.count_fits;
-      count_some = s.count_some;
-      homes_long = s.homes_long;
-      owed_long = s.owed_long;
-      owing_fits = s.owing_fits;
-      waiting_long = s.waiting_long;
-      queued_fits = s.queued_fits;
-      heaped = s.heaped;
-      begins_fit = s.begins_fit;
-      ends_fit = o;
-      accounts_fit = omega arith;
-    }
+    with_ended_row s a.thread a.place a.time t i d c.end.new.self m (c.end.ensures.held i (found_in s a.thread a.place a.time t i d m)) (s.ends + 1) (omega arith) (omega arith)
 
 pub invariant_of-self-in-Ok-3 : goal.invariant_of-self-in-Ok-3
 invariant_of-self-in-Ok-3 c =

@@ -1,5 +1,4 @@
-use Rattle.std.proofs.Common.{◌≡◌, length, None, Err, refl, ap, ◌∙◌, subst, arith}
-use Rattle.std.proofs.lemmas.List.{length-set}
+use Rattle.std.proofs.Common.{◌≡◌, length, None, Err, refl, ap, subst}
 use Rattle.semantics.specs.Calls.{perform, taken}
 use Rattle.semantics.specs.Laws.{by_rule, perform_laws}
 use Rattle.thread.specs.declared.row.ThreadRow.{ThreadRow}
@@ -8,7 +7,8 @@ use Rattle.thread.specs.View.{view_thread}
 use Rattle.table.specs.Views.{view, told}
 use Rattle.table.proofs.Answers.{leaves}
 use Rattle.table.proofs.Performs.{performs, convicts, in_time}
-use Rattle.table.proofs.Rows.{put_row, opens_same, in_count, same_row}
+use Rattle.table.proofs.Rows.{put_row, in_count, same_row}
+use Rattle.table.proofs.Carried.{with_same_row}
 use Rattle.table.proofs.table.Table.perform.Goals as goal
 
 pub perform-requires : goal.perform-requires
@@ -26,24 +26,7 @@ perform-requires g c =
     }
 
 pub invariant_of-self : goal.invariant_of-self
-invariant_of-self g c =
-    let s = c.args.self.now in
-    let m = c.in_ok-t.ensures in
-    let o = opens_same s c.in_ok-t.t c.perform.new.self c.index-self-t-in-Ok.result (in_count s c.args.thread c.in_ok-t.t m.thread) c.perform.ensures.held in
-    record {
-      threads_long = length-set s.threads c.in_ok-t.t c.perform.new.self ∙ s.threads_long;
-      count_fits = s.count_fits;
-      count_some = s.count_some;
-      homes_long = s.homes_long;
-      owed_long = s.owed_long;
-      owing_fits = s.owing_fits;
-      waiting_long = s.waiting_long;
-      queued_fits = s.queued_fits;
-      heaped = s.heaped;
-      begins_fit = s.begins_fit;
-      ends_fit = let e = s.ends_fit in omega arith;
-      accounts_fit = s.accounts_fit;
-    }
+invariant_of-self g c = with_same_row c.args.self.now c.in_ok-t.t c.perform.new.self c.index-self-t-in-Ok.result (in_count c.args.self.now c.args.thread c.in_ok-t.t c.in_ok-t.ensures.thread) c.perform.ensures.held
 
 pub returns-in-Ok : goal.returns-in-Ok
 returns-in-Ok g c =

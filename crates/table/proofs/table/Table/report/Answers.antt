@@ -1,8 +1,7 @@
 use Rattle.std.proofs.Common.{get_or, sym, subst, arith}
 use Rattle.queue.specs.Order.{Heap}
-use Rattle.rows.proofs.Counted.{shorter}
 use Rattle.ended.specs.Plain.{row_le}
-use Rattle.table.proofs.Notices.{numbered, no_row, owed_without, waits_more, reports}
+use Rattle.table.proofs.Notices.{owed_less, owed_without, waits_more, reports}
 use Rattle.table.proofs.table.Table.report.Goals as goal
 
 pub invariant_of-self : goal.invariant_of-self
@@ -10,12 +9,8 @@ invariant_of-self c =
     let s = c.args.self.now in
     let k = c.in_ok-i.ensures in
     let r = c.remove-self in
-    let wl = s.owed_long in
-    let of = s.owing_fits in
-    let rf = r.ensures.bound in
-    let rk = r.auto.rows in
-    let h = shorter (numbered c.args.number) s.owing r.result s.owed r.new.rows _ (omega arith) (omega arith) (k.1.here no_row) r.ensures.rest in
-    let e = s.ends_fit in
+    let h = owed_less s c.args.number c.in_ok-i.i r.result r.new.rows k.1 r.ensures.bound r.auto.rows r.ensures.rest in
+    let o = s.owing_fits in
     let f = s.accounts_fit in
     let p = c.add-self in
     let pc = p.ensures.count in
@@ -27,7 +22,7 @@ invariant_of-self c =
       count_fits = s.count_fits;
       count_some = s.count_some;
       homes_long = s.homes_long;
-      owed_long = omega arith;
+      owed_long = h.0;
       owing_fits = omega arith;
       waiting_long = omega arith;
       queued_fits = omega arith;
