@@ -1,4 +1,4 @@
--- The words for limits, for faults of a text, and for what some refusals and laws are about. A bound of the watch that they name is the one of its definition.
+-- The words for limits, for faults of a text, and for what some refusals and laws are about. A bound that they name is the one of its definition.
 use Rattle.std.specs.Prelude.{ℕ, List, ◌++◌, Some, None, codes, Option, decimal}
 use Rattle.ordering.specs.declared.class.Class.{Class}
 use Rattle.ordering.specs.declared.class.Class.TheVariants.{Load, Store, Barrier}
@@ -8,6 +8,7 @@ use Rattle.semantics.specs.declared.verdict.Limit.{Limit}
 use Rattle.semantics.specs.declared.verdict.Limit.TheVariants.{Outstanding, Commits, Open, Begins, Owed, Waiting}
 use Rattle.event.specs.declared.event.Event.{Event}
 use Rattle.event.specs.declared.event.Event.TheVariants as event
+use Rattle.text.specs.declared.limits.TheConstants.{MAX_TEXT, MAX_LINE}
 use Rattle.line.specs.declared.fault.Garbled.{Garbled}
 use Rattle.line.specs.declared.fault.Garbled.TheVariants.{TextLength, LineLength, Heading, FieldCount, Unknown, Number, Unused, End}
 use Rattle.explain.specs.declared.parts.Commit.{Commit}
@@ -27,7 +28,7 @@ commit_lack (Some c) = class_lack c.class
 abbrev pub lack_text : Operation → List ℕ
 lack_text o = commit_lack o.commit
 
--- What the third number of an event has to be: of a begin a kind, else a class.
+-- What the second number of an event has to be: of a begin a kind, else a class.
 abbrev pub kinds_text : Option Event → List ℕ
 kinds_text (Some (event.Begin t k p v τ)) = codes "kind of epochs: they are 0 and " ++ decimal last_kind
 kinds_text _ = codes "class of operations: they are 0 to " ++ decimal last_class
@@ -48,8 +49,8 @@ limit_text Waiting = codes "at most " ++ decimal most_waiting ++ codes " notices
 
 -- What is wrong with a text.
 abbrev pub fault_text : Garbled → List ℕ
-fault_text TextLength = codes "the text has more than 65536 bytes"
-fault_text LineLength = codes "the line has more than 112 bytes with its line feed, or no line feed ends it"
+fault_text TextLength = codes "the text has more than " ++ decimal MAX_TEXT ++ codes " bytes"
+fault_text LineLength = codes "the line has more than " ++ decimal MAX_LINE ++ codes " bytes with its line feed, or no line feed ends it"
 fault_text Heading = codes "the line differs from the heading that has to stand there"
 fault_text FieldCount = codes "the line has too few fields or too many"
 fault_text Unknown = codes "the first word names no rule on line 2, or no event on a later line"

@@ -22,7 +22,7 @@ pub fn lack_words(operation: Operation) -> &'static str
     }
 }
 
-// What the third number of the event has to be.
+// What the second number of the event has to be.
 pub fn kinds_words(call: Option<Event>) -> &'static str
     ensures { result.now ≡ kinds_text call }
 {

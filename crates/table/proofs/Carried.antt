@@ -44,8 +44,8 @@ with_row s t row ends m e =
     }
 
 -- A row with as many open epochs as the one before it.
-pub with_same_row : (s : Table) (t : ℕ) (row d : ThreadRow) → t < s.count → row.held ≡ (get_or s.threads t d).held → Carries s (set s.threads t row) s.ends
-with_same_row s t row d l h =
+pub with_as_many_open : (s : Table) (t : ℕ) (row d : ThreadRow) → t < s.count → row.held ≡ (get_or s.threads t d).held → Carries s (set s.threads t row) s.ends
+with_as_many_open s t row d l h =
     let o = opens_same s t row d l h in
     let e = s.ends_fit in
     with_row s t row s.ends (omega arith) (omega arith)

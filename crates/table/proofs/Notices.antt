@@ -49,9 +49,9 @@ owed_none s n e = find_map plain (λ e. eqb e.number n) (take s.owing s.owed) �
 pub owed_without : (s : Table) (n k : ℕ) (rows : List EndedRow) → take k rows ≡ keep (λ e. not (numbered n e)) (take s.owing s.owed) → map plain (take k rows) ≡ without n (view s).owed
 owed_without s n k rows e = ap (map plain) e ∙ sym (keep_map plain (λ e. not (eqb e.number n)) (take s.owing s.owed))
 
--- One row fewer is owed.
-pub owed_less : (s : Table) (n i k : ℕ) (rows : List EndedRow) → Owes s n i → k ≤ s.owing → length rows ≡ length s.owed → take k rows ≡ keep (λ e. not (numbered n e)) (take s.owing s.owed) → (length rows ≡ 32) × (k + 1 ≤ s.owing)
-owed_less s n i k rows o m l e =
+-- Without the row of a notice: the array is as long, and at least one row fewer is in use.
+pub owed_taken_out : (s : Table) (n i k : ℕ) (rows : List EndedRow) → Owes s n i → k ≤ s.owing → length rows ≡ length s.owed → take k rows ≡ keep (λ e. not (numbered n e)) (take s.owing s.owed) → (length rows ≡ 32) × (k + 1 ≤ s.owing)
+owed_taken_out s n i k rows o m l e =
     let w = s.owed_long in
     let f = s.owing_fits in
     (omega arith, shorter (numbered n) s.owing k s.owed rows _ (omega arith) (omega arith) (o.here no_row) e)

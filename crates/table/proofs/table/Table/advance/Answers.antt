@@ -8,7 +8,7 @@ use Rattle.table.specs.Views.{view}
 use Rattle.table.proofs.Answers.{refuses, leaves, tested}
 use Rattle.table.proofs.Calls.{advances}
 use Rattle.table.proofs.Rows.{put_row, in_count, same_row}
-use Rattle.table.proofs.Carried.{with_same_row}
+use Rattle.table.proofs.Carried.{with_as_many_open}
 use Rattle.table.proofs.table.Table.advance.Goals as goal
 
 pub returns-in_err-may_advance : goal.returns-in_err-may_advance
@@ -19,7 +19,7 @@ returns-in_err-may_advance c B =
     rw (p.1, p.2) (refuses B (view s) (Calls.advance a.thread a.time) _ (tested s a.thread c.in_ok-t.t c.index-self-t.result (advance_tests a.time) c.in_ok-t.ensures ∙ c.in_err-may_advance.ensures))
 
 pub invariant_of-self : goal.invariant_of-self
-invariant_of-self c = with_same_row c.args.self.now c.in_ok-t.t c.raise.new.self c.index-self-t-2.result (in_count c.args.self.now c.args.thread c.in_ok-t.t c.in_ok-t.ensures) c.raise.ensures.held
+invariant_of-self c = with_as_many_open c.args.self.now c.in_ok-t.t c.raise.new.self c.index-self-t-2.result (in_count c.args.self.now c.args.thread c.in_ok-t.t c.in_ok-t.ensures) c.raise.ensures.held
 
 pub returns : goal.returns
 returns c B =

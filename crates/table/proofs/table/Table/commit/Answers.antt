@@ -9,7 +9,7 @@ use Rattle.table.specs.Views.{view}
 use Rattle.table.proofs.Answers.{refuses, leaves, tested}
 use Rattle.table.proofs.Calls.{commits}
 use Rattle.table.proofs.Rows.{put_row, in_count, same_row}
-use Rattle.table.proofs.Carried.{with_same_row}
+use Rattle.table.proofs.Carried.{with_as_many_open}
 use Rattle.table.proofs.table.Table.commit.Goals as goal
 
 pub returns-in_err-class : goal.returns-in_err-class
@@ -20,7 +20,7 @@ returns-in_err-class c B =
     rw (p.1, p.2) (refuses B (view s) (Calls.commit a.thread a.class a.place a.value) _ (tested s a.thread c.in_ok-t.t c.index-self-t.result (commit_tests a.class a.place) c.in_ok-t.ensures ∙ c.in_err-class.ensures))
 
 pub invariant_of-self : goal.invariant_of-self
-invariant_of-self c = with_same_row c.args.self.now c.in_ok-t.t c.commit-number.new.self c.index-self-t-2.result (in_count c.args.self.now c.args.thread c.in_ok-t.t c.in_ok-t.ensures) c.commit-number.ensures.held
+invariant_of-self c = with_as_many_open c.args.self.now c.in_ok-t.t c.commit-number.new.self c.index-self-t-2.result (in_count c.args.self.now c.args.thread c.in_ok-t.t c.in_ok-t.ensures) c.commit-number.ensures.held
 
 pub returns : goal.returns
 returns c B =

@@ -2,7 +2,7 @@ use Rattle.std.proofs.Common.{Err, ap, arith}
 use Rattle.semantics.specs.Calls
 use Rattle.table.specs.Views.{view, told}
 use Rattle.table.proofs.Answers.{leaves}
-use Rattle.table.proofs.Notices.{owed_less, owed_without, drop_quietly, drop_convicts, not_guilty}
+use Rattle.table.proofs.Notices.{owed_taken_out, owed_without, drop_quietly, drop_convicts, not_guilty}
 use Rattle.table.proofs.table.Table.drop_notice.Goals as goal
 
 pub invariant_of-self : goal.invariant_of-self
@@ -10,7 +10,7 @@ invariant_of-self c =
     let s = c.args.self.now in
     let k = c.in_ok-i.ensures in
     let r = c.remove-self in
-    let h = owed_less s c.args.number c.in_ok-i.i r.result r.new.rows k.1 r.ensures.bound r.auto.rows r.ensures.rest in
+    let h = owed_taken_out s c.args.number c.in_ok-i.i r.result r.new.rows k.1 r.ensures.bound r.auto.rows r.ensures.rest in
     let o = s.owing_fits in
     let f = s.accounts_fit in
     record {

@@ -8,7 +8,7 @@ use Rattle.table.specs.Views.{view, told}
 use Rattle.table.proofs.Answers.{leaves}
 use Rattle.table.proofs.Performs.{performs, convicts, in_time}
 use Rattle.table.proofs.Rows.{put_row, in_count, same_row}
-use Rattle.table.proofs.Carried.{with_same_row}
+use Rattle.table.proofs.Carried.{with_as_many_open}
 use Rattle.table.proofs.table.Table.perform.Goals as goal
 
 pub perform-requires : goal.perform-requires
@@ -26,7 +26,7 @@ perform-requires g c =
     }
 
 pub invariant_of-self : goal.invariant_of-self
-invariant_of-self g c = with_same_row c.args.self.now c.in_ok-t.t c.perform.new.self c.index-self-t-in-Ok.result (in_count c.args.self.now c.args.thread c.in_ok-t.t c.in_ok-t.ensures.thread) c.perform.ensures.held
+invariant_of-self g c = with_as_many_open c.args.self.now c.in_ok-t.t c.perform.new.self c.index-self-t-in-Ok.result (in_count c.args.self.now c.args.thread c.in_ok-t.t c.in_ok-t.ensures.thread) c.perform.ensures.held
 
 pub returns-in-Ok : goal.returns-in-Ok
 returns-in-Ok g c =

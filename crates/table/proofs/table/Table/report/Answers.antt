@@ -1,7 +1,7 @@
 use Rattle.std.proofs.Common.{get_or, sym, subst, arith}
 use Rattle.queue.specs.Order.{Heap}
 use Rattle.ended.specs.Plain.{row_le}
-use Rattle.table.proofs.Notices.{owed_less, owed_without, waits_more, reports}
+use Rattle.table.proofs.Notices.{owed_taken_out, owed_without, waits_more, reports}
 use Rattle.table.proofs.table.Table.report.Goals as goal
 
 pub invariant_of-self : goal.invariant_of-self
@@ -9,7 +9,7 @@ invariant_of-self c =
     let s = c.args.self.now in
     let k = c.in_ok-i.ensures in
     let r = c.remove-self in
-    let h = owed_less s c.args.number c.in_ok-i.i r.result r.new.rows k.1 r.ensures.bound r.auto.rows r.ensures.rest in
+    let h = owed_taken_out s c.args.number c.in_ok-i.i r.result r.new.rows k.1 r.ensures.bound r.auto.rows r.ensures.rest in
     let o = s.owing_fits in
     let f = s.accounts_fit in
     let p = c.add-self in
