@@ -2,6 +2,7 @@
 use Rattle.std.proofs.Common.{◌≡◌, ℕ, suc, ◌+◌, ◌<◌, ◌≤◌, Bool, true, false, not, ◌&&◌, ◌||◌, eqb, ltb, ◌⊎◌, List, [], ◌∷◌, ◌++◌, length, Some, sym, refl, ap, ◌∙◌, subst, ap₂, inl, inr, arith}
 use Rattle.std.proofs.lemmas.Bool.{eqb-true, ltb-false, lt-ltb, le-ltb, cases_eq, cases_order, eq-eqb, ne_eqb, leb-false}
 use Rattle.std.proofs.lemmas.List.{length_push}
+use Rattle.std.specs.List.{filter}
 use Rattle.semantics.specs.declared.row.Epoch.{Epoch}
 use Rattle.semantics.specs.declared.row.Ended.{Ended}
 use Rattle.semantics.specs.declared.verdict.Conviction.{Conviction}
@@ -10,7 +11,6 @@ use Rattle.semantics.specs.Calls.{begin, end}
 use Rattle.semantics.specs.Effect.{effect, ended}
 use Rattle.semantics.specs.Judging.{insert}
 use Rattle.semantics.specs.Laws.{Precedes}
-use Rattle.semantics.specs.Lists.{keep}
 use Rattle.semantics.specs.Puts.{put_verdict, without}
 use Rattle.semantics.specs.State.{State, thread_of, epoch_at, owed_as}
 use Rattle.accounts.specs.Accounts.{Account, Open, Owed, Waiting, Judged, Dropped, Entry, Log, is, same, stand, finish, finished, open_at, owed_under, sooner, alter, with_epochs}
@@ -120,7 +120,7 @@ module _ (B : Precedes) (s : State) (l : Log) (b : Books s l) (t p v τ : ℕ) (
       left : (u : ℕ) → tally Open (λ r. eqb r.thread u && q r) new_epochs + tally Open (λ r. its r && (eqb r.thread u && q r)) l.epochs ≡ tally Open (λ r. eqb r.thread u && q r) l.epochs
       left u = leave Open Owed its (open_at t p) (finished s.ends v τ) ended_as (λ _. refl) (λ _. refl) (λ _. refl) (same Open) (λ r. eqb r.thread u && q r) l.epochs refl refl
 
-      own : count (λ e. q (open_row t e)) (keep (λ x. not (eqb x.place e.place)) (thread_of s t).epochs) ≡ tally Open (λ r. eqb r.thread t && q r) new_epochs
+      own : count (λ e. q (open_row t e)) (filter (λ x. not (eqb x.place e.place)) (thread_of s t).epochs) ≡ tally Open (λ r. eqb r.thread t && q r) new_epochs
       own =
           let a = count_kept (λ x. eqb x.place e.place) (λ x. q (open_row t x)) (thread_of s t).epochs in
           let c : count (λ x. eqb x.place e.place && q (open_row t x)) (thread_of s t).epochs ≡ one_if (q (open_row t e)) =

@@ -1,11 +1,11 @@
 -- What judging does, in the watch and in the log. Assumes nothing.
-use Rattle.std.proofs.Common.{◌≡◌, ℕ, zero, suc, ◌+◌, ◌<◌, ◌≤◌, Bool, true, false, not, ◌&&◌, eqb, ltb, List, [], ◌∷◌, ◌++◌, length, take, drop, Some, None, Option, sym, refl, ap, ◌∙◌, subst, le_of_suc-le-suc, not-suc-le-zero, arith, take-append-drop}
+use Rattle.std.proofs.Common.{◌≡◌, ℕ, zero, suc, ◌+◌, ◌<◌, ◌≤◌, Bool, true, false, not, ◌&&◌, eqb, ltb, List, [], ◌∷◌, ◌++◌, length, take, drop, Some, None, Option, sym, refl, ap, ◌∙◌, subst, le_of_suc-le-suc, not-suc-le-zero, arith, take-append-drop, map}
 use Rattle.std.proofs.lemmas.Bool.{lt-ltb, eq-eqb}
 use Rattle.std.proofs.lemmas.List.{append-nil, append_assoc, length-set, length-take-le}
+use Rattle.std.specs.List.{filter}
 use Rattle.semantics.specs.declared.row.Ended.{Ended}
 use Rattle.semantics.specs.declared.verdict.Conviction.{Conviction}
 use Rattle.semantics.specs.Judging.{home_laws, judged_one, Judging, stop_at, go_on, judge}
-use Rattle.semantics.specs.Lists.{map, keep}
 use Rattle.semantics.specs.State.{State, home_of}
 use Rattle.accounts.specs.Accounts.{Account, Waiting, Judged, Entry, Log, is, same, stand, alter, sooner, next, judge_next, judge_many, ahead_of}
 use Rattle.accounts.specs.Homes.{home_after, Lawful}
@@ -13,7 +13,7 @@ use Rattle.accounts.specs.Lists.{one_if, count, there_is, All, InOrder}
 use Rattle.accounts.proofs.Counting.{all_map, all_always, all_sorted_cross, count_all, count_append, count_like, count_like_in, count_map, count_none, in_order_right, none_count}
 use Rattle.accounts.proofs.Folding.{home_next, law_names, lawful_like, unmarked}
 use Rattle.accounts.proofs.Moving.{tally, tallies, length_alter, stay, leave, join, within}
-use Rattle.accounts.proofs.Queues.{count_keep, sooner_self, sooner_other}
+use Rattle.accounts.proofs.Queues.{count_filter, sooner_self, sooner_other}
 use Rattle.accounts.proofs.SameRow.{same_row, same_row_refl, same_row_true}
 
 -- the watch judges the first m of the waiting
@@ -159,10 +159,10 @@ module _ (e : Ended) (ws : List Ended) (o : InOrder sooner (e ∷ ws)) where
         by true k = within Waiting Judged first_of_all (next es) (stand Judged) (λ r. r) next_is (λ _. refl) (λ _. refl) A p es k (sym h ∙ k) (λ _. refl)
         by false k = stay Waiting Judged first_of_all (next es) (stand Judged) (λ r. r) next_is (λ _. refl) (λ _. refl) A p es k (sym h ∙ k)
 
-    pub next_row : map (λ x. x.row) (keep (next es) es) ≡ e ∷ []
+    pub next_row : map (λ x. x.row) (filter (next es) es) ≡ e ∷ []
     next_row = only e _ (λ p.
-        count_map p (λ x. x.row) (keep (next es) es)
-        ∙ count_keep (next es) (λ x. p x.row) es
+        count_map p (λ x. x.row) (filter (next es) es)
+        ∙ count_filter (next es) (λ x. p x.row) es
         ∙ count_like _ _ es (λ x. ap (λ b. b && p x.row) (next_is x) ∙ assoc (is Waiting x) (first_of_all x.row) (p x.row))
         ∙ sym (w (λ r. first_of_all r && p r)) ∙ firsts p)
       where

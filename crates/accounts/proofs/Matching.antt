@@ -1,9 +1,8 @@
 -- Each row of the watch is that of exactly one epoch of the log. Assumes nothing.
-use Rattle.std.proofs.Common.{◌≡◌, ℕ, ◌≤◌, Bool, true, false, ◌&&◌, eqb, ltb, List, [], ◌∷◌, sym, refl, ap, ◌∙◌, true≢false, arith}
+use Rattle.std.proofs.Common.{◌≡◌, ℕ, ◌≤◌, Bool, true, false, ◌&&◌, eqb, ltb, List, [], ◌∷◌, sym, refl, ap, ◌∙◌, true≢false, arith, map}
 use Rattle.std.proofs.lemmas.Bool.{eq-eqb, and_parts, and_from, and_right}
 use Rattle.semantics.specs.declared.row.Epoch.{Epoch}
 use Rattle.semantics.specs.declared.row.Ended.{Ended}
-use Rattle.semantics.specs.Lists.{map}
 use Rattle.semantics.specs.State.{State, thread_of}
 use Rattle.semantics.specs.Trace.{Trace}
 use Rattle.accounts.specs.Accounts.{Account, Open, Entry, Log, is, same, log, epochs}

@@ -1,11 +1,12 @@
--- What find, keep, change and insert do to counts and to order. Assumes nothing.
+-- What find, filter, change and insert do to counts and to order. Assumes nothing.
 use Rattle.std.proofs.Common.{◌≡◌, ℕ, ◌+◌, ◌<◌, ◌≤◌, Bool, true, false, cond, not, ◌&&◌, ◌||◌, eqb, ltb, leb, ◌⊎◌, List, [], ◌∷◌, Some, None, sym, refl, ap, ◌∙◌, ap₂, inl, inr, arith}
 use Rattle.std.proofs.lemmas.Bool.{cases_order, le-leb, lt-leb, lt-ltb, le-ltb, eq-eqb, ne_eqb, eqb-false}
 use Rattle.std.proofs.lemmas.Bool.Decides.{nat_tests}
+use Rattle.std.specs.List.{find, filter}
 use Rattle.queue.specs.Fields.{in_turn}
 use Rattle.semantics.specs.declared.row.Ended.{Ended}
 use Rattle.semantics.specs.Judging.{ended_le, insert}
-use Rattle.semantics.specs.Lists.{find, keep, change}
+use Rattle.semantics.specs.Lists.{change}
 use Rattle.accounts.specs.Accounts.{sooner}
 use Rattle.accounts.specs.Lists.{count, one_if, All, InOrder}
 use Rattle.accounts.proofs.Counting.{count_two, all_map, none_count, count_none}
@@ -53,18 +54,18 @@ module _ {A : Type 0} where
           let c : one_if (p x) ≡ 0 = ap one_if e in
           let r = i (sym (find_no p x xs e) ∙ h) (omega arith) in omega arith
 
-  pub count_keep : (p q : A → Bool) (xs : List A) → count q (keep p xs) ≡ count (λ x. p x && q x) xs
-  count_keep p q [] = refl
-  count_keep p q (x ∷ xs) = by (p x) (count_keep p q xs)
+  pub count_filter : (p q : A → Bool) (xs : List A) → count q (filter p xs) ≡ count (λ x. p x && q x) xs
+  count_filter p q [] = refl
+  count_filter p q (x ∷ xs) = by (p x) (count_filter p q xs)
     where
-      by : (b : Bool) → count q (keep p xs) ≡ count (λ x. p x && q x) xs → count q (cond b (x ∷ keep p xs) (keep p xs)) ≡ one_if (b && q x) + count (λ x. p x && q x) xs
+      by : (b : Bool) → count q (filter p xs) ≡ count (λ x. p x && q x) xs → count q (cond b (x ∷ filter p xs) (filter p xs)) ≡ one_if (b && q x) + count (λ x. p x && q x) xs
       by true i = ap (λ n. one_if (q x) + n) i
       by false i = omega arith
 
   -- the kept and the others
-  pub count_kept : (p q : A → Bool) (xs : List A) → count q (keep (λ x. not (p x)) xs) + count (λ x. p x && q x) xs ≡ count q xs
+  pub count_kept : (p q : A → Bool) (xs : List A) → count q (filter (λ x. not (p x)) xs) + count (λ x. p x && q x) xs ≡ count q xs
   count_kept p q xs =
-      let h = count_keep (λ x. not (p x)) q xs in
+      let h = count_filter (λ x. not (p x)) q xs in
       let k = count_two q (λ x. not (p x) && q x) (λ x. p x && q x) xs (λ x. by (p x) (q x)) in omega arith
     where
       by : (a b : Bool) → one_if b ≡ one_if (not a && b) + one_if (a && b)

@@ -1,10 +1,11 @@
 -- The safe time is the greatest lower bound of the watch's times. Assumes nothing.
-use Rattle.std.proofs.Common.{◌≡◌, ℕ, zero, suc, ◌+◌, ◌<◌, ◌≤◌, min, ltb, ◌⊎◌, List, [], ◌∷◌, ◌++◌, length, get_or, set, sym, refl, ap, ◌∙◌, subst, inl, inr, le_of_suc-le-suc, not-suc-le-zero, arith}
+use Rattle.std.proofs.Common.{◌≡◌, ℕ, zero, suc, ◌+◌, ◌<◌, ◌≤◌, min, ltb, ◌⊎◌, List, [], ◌∷◌, ◌++◌, length, get_or, set, sym, refl, ap, ◌∙◌, subst, inl, inr, le_of_suc-le-suc, not-suc-le-zero, arith, map}
 use Rattle.std.proofs.lemmas.Bool.{ltb-false, le-ltb, cases_eq, cases_lt}
 use Rattle.std.proofs.lemmas.List.{get_or-set_same, get_or-set_other, length-set, set_past}
+use Rattle.std.specs.List.{flat_map, fold}
 use Rattle.semantics.specs.declared.row.Ended.{Ended}
 use Rattle.semantics.specs.Judging.{times, safe}
-use Rattle.semantics.specs.Lists.{least, least_of, map, flat}
+use Rattle.semantics.specs.Lists.{least_of}
 use Rattle.semantics.specs.State.{State, Thread, idle}
 use Rattle.accounts.specs.Lists.{count, one_if, All}
 use Rattle.accounts.proofs.Counting.{all_map, all_left, all_right, all_append, none_count, count_none}
@@ -18,11 +19,11 @@ pub record Lower (b : ℕ) (ws : List Thread) (os : List Ended) : Type 0 where
 abbrev pub LowerIn : ℕ → State → Type 0
 LowerIn b s = Lower b s.threads s.owed
 
-least_le : (m : ℕ) (xs : List ℕ) → (least m xs ≤ m) × All (λ x. least m xs ≤ x) xs
+least_le : (m : ℕ) (xs : List ℕ) → (fold min m xs ≤ m) × All (λ x. fold min m xs ≤ x) xs
 least_le m [] = (omega arith, tt)
 least_le m (x ∷ xs) = let i = least_le (min m x) xs in (omega arith, (omega arith, i.1))
 
-least_ge : (b m : ℕ) (xs : List ℕ) → b ≤ m → All (λ x. b ≤ x) xs → b ≤ least m xs
+least_ge : (b m : ℕ) (xs : List ℕ) → b ≤ m → All (λ x. b ≤ x) xs → b ≤ fold min m xs
 least_ge b m [] h k = h
 least_ge b m (x ∷ xs) h k = least_ge b (min m x) xs (let q = k.0 in omega arith) k.1
 
@@ -47,24 +48,24 @@ module _ {A : Type 0} (f : A → ℕ) (b : ℕ) where
 abbrev times_of : Thread → List ℕ
 times_of w = w.clock ∷ map (λ e. e.from) w.epochs
 
-clocks_of : (b : ℕ) (ws : List Thread) → All (λ x. b ≤ x) (flat times_of ws) → (t : ℕ) → t < length ws → b ≤ (get_or ws t idle).clock
+clocks_of : (b : ℕ) (ws : List Thread) → All (λ x. b ≤ x) (flat_map times_of ws) → (t : ℕ) → t < length ws → b ≤ (get_or ws t idle).clock
 clocks_of b [] h t l = absurd (not-suc-le-zero l)
 clocks_of b (w ∷ ws) h zero l = h.0
-clocks_of b (w ∷ ws) h (suc t) l = clocks_of b ws (all_right (λ x. b ≤ x) (times_of w) (flat times_of ws) h) t (le_of_suc-le-suc l)
+clocks_of b (w ∷ ws) h (suc t) l = clocks_of b ws (all_right (λ x. b ≤ x) (times_of w) (flat_map times_of ws) h) t (le_of_suc-le-suc l)
 
-opens_of : (b : ℕ) (ws : List Thread) → All (λ x. b ≤ x) (flat times_of ws) → (t : ℕ) → count (λ e. ltb e.from b) (get_or ws t idle).epochs ≡ 0
+opens_of : (b : ℕ) (ws : List Thread) → All (λ x. b ≤ x) (flat_map times_of ws) → (t : ℕ) → count (λ e. ltb e.from b) (get_or ws t idle).epochs ≡ 0
 opens_of b [] h t = refl
-opens_of b (w ∷ ws) h zero = count_of (λ e. e.from) b w.epochs (all_left (λ x. b ≤ x) (times_of w) (flat times_of ws) h).1
-opens_of b (w ∷ ws) h (suc t) = opens_of b ws (all_right (λ x. b ≤ x) (times_of w) (flat times_of ws) h) t
+opens_of b (w ∷ ws) h zero = count_of (λ e. e.from) b w.epochs (all_left (λ x. b ≤ x) (times_of w) (flat_map times_of ws) h).1
+opens_of b (w ∷ ws) h (suc t) = opens_of b ws (all_right (λ x. b ≤ x) (times_of w) (flat_map times_of ws) h) t
 
-of_threads : (b : ℕ) (ws : List Thread) → ((t : ℕ) → t < length ws → b ≤ (get_or ws t idle).clock) → ((t : ℕ) → count (λ e. ltb e.from b) (get_or ws t idle).epochs ≡ 0) → All (λ x. b ≤ x) (flat times_of ws)
+of_threads : (b : ℕ) (ws : List Thread) → ((t : ℕ) → t < length ws → b ≤ (get_or ws t idle).clock) → ((t : ℕ) → count (λ e. ltb e.from b) (get_or ws t idle).epochs ≡ 0) → All (λ x. b ≤ x) (flat_map times_of ws)
 of_threads b [] c o = tt
-of_threads b (w ∷ ws) c o = all_append (λ x. b ≤ x) (times_of w) (flat times_of ws) (c 0 (omega arith), of_count (λ e. e.from) b w.epochs (o 0)) (of_threads b ws (λ t l. c (suc t) (omega arith)) (λ t. o (suc t)))
+of_threads b (w ∷ ws) c o = all_append (λ x. b ≤ x) (times_of w) (flat_map times_of ws) (c 0 (omega arith), of_count (λ e. e.from) b w.epochs (o 0)) (of_threads b ws (λ t l. c (suc t) (omega arith)) (λ t. o (suc t)))
 
 pub lower_safe : (s : State) → LowerIn (safe s) s
 lower_safe s =
     let b = safe s in
-    let ts = flat times_of s.threads in
+    let ts = flat_map times_of s.threads in
     let os = map (λ e. e.from) s.owed in
     let h : All (λ x. b ≤ x) (ts ++ os) = least_of_le (times s) in
     let k : All (λ x. b ≤ x) ts = all_left (λ x. b ≤ x) ts os h in
@@ -73,9 +74,9 @@ lower_safe s =
 pub safe_greatest : (b : ℕ) (s : State) → 0 < length s.threads → LowerIn b s → b ≤ safe s
 safe_greatest b s l h =
     least_of_ge b (times s) (long s.threads l)
-    (all_append (λ x. b ≤ x) (flat times_of s.threads) (map (λ e. e.from) s.owed) (of_threads b s.threads h.clocks h.opens) (of_count (λ e. e.from) b s.owed h.owed))
+    (all_append (λ x. b ≤ x) (flat_map times_of s.threads) (map (λ e. e.from) s.owed) (of_threads b s.threads h.clocks h.opens) (of_count (λ e. e.from) b s.owed h.owed))
   where
-    long : (ws : List Thread) → 0 < length ws → 0 < length (flat times_of ws ++ map (λ e. e.from) s.owed)
+    long : (ws : List Thread) → 0 < length ws → 0 < length (flat_map times_of ws ++ map (λ e. e.from) s.owed)
     long [] l = absurd (not-suc-le-zero l)
     long (w ∷ ws) l = omega arith
 

@@ -1,12 +1,13 @@
 -- A call is refused, or has its effect after every test of a refusal has failed. Assumes nothing.
 use Rattle.std.proofs.Common.{◌≡◌, ℕ, Bool, true, false, cond, not, List, [], ◌∷◌, Some, None, Option, sym, refl, ap, ◌∙◌, true≢false, arith}
+use Rattle.std.specs.Option.{is_some}
 use Rattle.semantics.specs.declared.verdict.Refusal.{Refusal}
 use Rattle.semantics.specs.declared.verdict.Verdict.{Verdict}
 use Rattle.semantics.specs.declared.verdict.Verdict.TheVariants.{Running, Clean, Guilty}
 use Rattle.semantics.specs.Calls.{Call, refused}
 use Rattle.semantics.specs.Effect.{Outcome, effect}
 use Rattle.semantics.specs.Laws.{Precedes}
-use Rattle.semantics.specs.Lists.{first_of, is_some}
+use Rattle.semantics.specs.Lists.{first_of}
 use Rattle.semantics.specs.Refusals.{Test, refusals, checks, halted, stopped, stopped_by}
 use Rattle.semantics.specs.State.{State}
 use Rattle.semantics.specs.Step.{answered, step}

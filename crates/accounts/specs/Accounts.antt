@@ -1,10 +1,10 @@
 -- The account of each epoch of a trace, from the calls and their answers alone. Assumes nothing.
 -- An epoch is open from its begin, owed from its end, waiting from its report, judged once its judging finds no fault; or dropped while it is owed.
-use Rattle.std.specs.Prelude.{ℕ, zero, suc, ◌+◌, Bool, true, false, cond, not, ◌&&◌, ◌||◌, List, [], ◌∷◌, ◌++◌, ◌==◌, nat_lt}
+use Rattle.std.specs.Prelude.{ℕ, zero, suc, ◌+◌, Bool, true, false, cond, not, ◌&&◌, ◌||◌, List, [], ◌∷◌, ◌++◌, ◌==◌, nat_lt, map}
+use Rattle.std.specs.List.{filter}
 use Rattle.semantics.specs.declared.row.Ended.{Ended}
 use Rattle.semantics.specs.Calls.{Answer, taken, refused, convicted}
 use Rattle.semantics.specs.Calls
-use Rattle.semantics.specs.Lists.{map, keep}
 use Rattle.semantics.specs.Trace.{Trace}
 use Rattle.accounts.specs.Deeds.{Deed, begins, ends, reports, drops, judges, nothing, deed}
 use Rattle.accounts.specs.Lists.{one_if, count, there_is}
@@ -64,7 +64,7 @@ next es e = is Waiting e && not (there_is (λ x. is Waiting x && sooner x.row e.
 abbrev pub judge_next : Log → Log
 judge_next l = record {
   epochs = alter (next l.epochs) (stand Judged) l.epochs;
-  judgings = l.judgings ++ map (λ e. e.row) (keep (next l.epochs) l.epochs);
+  judgings = l.judgings ++ map (λ e. e.row) (filter (next l.epochs) l.epochs);
 }
 
 abbrev pub judge_many : ℕ → Log → Log

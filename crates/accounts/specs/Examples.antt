@@ -1,9 +1,8 @@
 -- Traces with epochs in every account, for every rule. Assumes nothing.
-use Rattle.std.specs.Prelude.{◌≡◌, ℕ, List, [], ◌∷◌}
+use Rattle.std.specs.Prelude.{◌≡◌, ℕ, List, [], ◌∷◌, map}
 use Rattle.semantics.specs.declared.counts.Counts.{Counts}
 use Rattle.semantics.specs.Calls.{Call, advance, begin, end, report, drop, settle, close}
 use Rattle.semantics.specs.Laws.{Rule}
-use Rattle.semantics.specs.Lists.{map}
 use Rattle.semantics.specs.State.{State, made}
 use Rattle.semantics.specs.Trace.{Trace, Follows, follow}
 use Rattle.accounts.specs.Accounts.{judgings}

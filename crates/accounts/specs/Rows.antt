@@ -1,9 +1,8 @@
 -- The rows of a watch are the epochs of its trace, and the accounts add up with the calls. Assumes nothing.
-use Rattle.std.specs.Prelude.{◌≡◌, ℕ, ◌+◌, not, ◌&&◌, List, [], ◌∷◌, ◌++◌, ◌==◌, nat_lt}
+use Rattle.std.specs.Prelude.{◌≡◌, ℕ, ◌+◌, not, ◌&&◌, List, [], ◌∷◌, ◌++◌, ◌==◌, nat_lt, map}
 use Rattle.semantics.specs.declared.row.Ended.{Ended}
 use Rattle.semantics.specs.declared.row.Epoch.{Epoch}
 use Rattle.semantics.specs.Laws.{Rule}
-use Rattle.semantics.specs.Lists.{map}
 use Rattle.semantics.specs.State.{State, thread_of}
 use Rattle.semantics.specs.Trace.{Trace, Follows}
 use Rattle.accounts.specs.Accounts.{Account, Open, Owed, Waiting, Judged, Dropped, is, sooner, epochs, judgings, size, put_into}

@@ -8,43 +8,31 @@ ghost use Rattle.accounts.specs.Rows.{CallsAddUp, RowsAreEpochs};
 ghost use Rattle.accounts.specs.SafeTime.{SafeTimeNeverFalls};
 
 // The counts of a watch are the sizes of the five accounts, each epoch begun is in one, and the judged were judged in order.
-pub fn accounts_are_exact() -> u8
+pub fn accounts_are_exact()
     ensures { AccountsAreExact }
-{
-    0
-}
+{}
 
 // Each row of a watch is that of exactly one epoch of its trace, and each notice number was handed out once.
-pub fn rows_are_epochs() -> u8
+pub fn rows_are_epochs()
     ensures { RowsAreEpochs }
-{
-    0
-}
+{}
 
 // What stands in an account was put there by a call, and not put on by a later one.
-pub fn calls_add_up() -> u8
+pub fn calls_add_up()
     ensures { CallsAddUp }
-{
-    0
-}
+{}
 
 // No call lowers the safe time.
-pub fn safe_time_never_falls() -> u8
+pub fn safe_time_never_falls()
     ensures { SafeTimeNeverFalls }
-{
-    0
-}
+{}
 
 // The home of each place is its starting value, changed by the judged epochs of the place in turn; these stand apart.
-pub fn homes_are_told() -> u8
+pub fn homes_are_told()
     ensures { HomesAreTold }
-{
-    0
-}
+{}
 
 // There are traces with epochs in every account.
-pub fn examples_stand() -> u8
+pub fn examples_stand()
     ensures { ExamplesStand }
-{
-    0
-}
+{}

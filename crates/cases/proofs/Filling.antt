@@ -1,5 +1,5 @@
 -- A thread that commits until no place is free: the row of the worked records that is too long to compute. Assumes nothing.
-use Rattle.std.proofs.Common.{◌≡◌, ℕ, zero, suc, ◌+◌, ◌<◌, ◌≤◌, Bool, true, false, cond, leb, List, [], ◌∷◌, ◌++◌, length, replicate, Some, None, sym, refl, ap, ◌∙◌, subst, add-zero, add-one, arith}
+use Rattle.std.proofs.Common.{◌≡◌, ℕ, zero, suc, ◌+◌, ◌<◌, ◌≤◌, Bool, true, false, cond, leb, List, [], ◌∷◌, ◌++◌, length, replicate, Some, None, sym, refl, ap, ◌∙◌, subst, add-zero, add-one, arith, map}
 use Rattle.std.proofs.lemmas.List.{length_push}
 use Rattle.std.proofs.lemmas.Bool.{lt-leb, le-leb}
 use Rattle.semantics.specs.declared.row.Operation.{Operation}
@@ -12,7 +12,6 @@ use Rattle.semantics.specs.Classes.{operation}
 use Rattle.semantics.specs.Effect.{Outcome}
 use Rattle.semantics.specs.Laws.{Precedes}
 use Rattle.semantics.specs.Limits.{places}
-use Rattle.semantics.specs.Lists.{map}
 use Rattle.cases.specs.Records.{taken, refused, shown, taken_from}
 use Rattle.semantics.specs.State.{State, unused}
 use Rattle.semantics.specs.Step.{answered, step, answers}

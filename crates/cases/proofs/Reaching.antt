@@ -1,7 +1,9 @@
 -- Runs to a limit, by induction over how far it still is. Assumes nothing.
-use Rattle.std.proofs.Common.{◌≡◌, ℕ, zero, suc, ◌+◌, ◌<◌, ◌≤◌, Bool, true, false, cond, not, eqb, ltb, leb, List, [], ◌∷◌, ◌++◌, length, get_or, set, replicate, Some, None, sym, refl, ap, ◌∙◌, subst, add-zero, add-one, arith}
+use Rattle.std.proofs.Common.{◌≡◌, ℕ, zero, suc, ◌+◌, ◌<◌, ◌≤◌, Bool, true, false, cond, not, eqb, ltb, leb, List, [], ◌∷◌, ◌++◌, length, get_or, set, replicate, Some, None, sym, refl, ap, ◌∙◌, subst, add-zero, add-one, arith, map}
 use Rattle.std.proofs.lemmas.List.{length_push}
 use Rattle.std.proofs.lemmas.Bool.{lt-leb, le-leb, lt-ltb, le-ltb, eq-eqb, ne_eqb}
+use Rattle.std.specs.List.{find}
+use Rattle.std.specs.Option.{is_some}
 use Rattle.queue.specs.Fields.{in_turn}
 use Rattle.semantics.specs.declared.row.Ended.{Ended}
 use Rattle.semantics.specs.declared.row.Epoch.{Epoch}
@@ -17,7 +19,6 @@ use Rattle.semantics.specs.Effect.{Outcome, opened, ended_row}
 use Rattle.semantics.specs.Effect
 use Rattle.semantics.specs.Judging.{insert, ended_le}
 use Rattle.semantics.specs.Laws.{Precedes}
-use Rattle.semantics.specs.Lists.{is_some, find, map}
 use Rattle.semantics.specs.Puts.{marked}
 use Rattle.cases.specs.Records.{Shown, taken, refused, shown}
 use Rattle.semantics.specs.State.{State, unused}

@@ -1,12 +1,11 @@
 -- Eight worked records: calls under a named rule, with the answers that they get. Assumes nothing.
-use Rattle.std.specs.Prelude.{◌≡◌, ℕ, zero, suc, ◌+◌, List, [], ◌∷◌, ◌++◌, replicate}
+use Rattle.std.specs.Prelude.{◌≡◌, ℕ, zero, suc, ◌+◌, List, [], ◌∷◌, ◌++◌, replicate, map}
 use Rattle.ordering.specs.Named.{named_orders}
 use Rattle.ordering.specs.declared.named.NamedRule.{NamedRule}
 use Rattle.ordering.specs.declared.named.NamedRule.TheVariants.{Sc, Tso, Rmo}
 use Rattle.semantics.specs.Calls.{Call, preset, commit, perform, advance, begin, end, report, drop, settle, close, Answer}
 use Rattle.semantics.specs.Calls
 use Rattle.semantics.specs.Laws.{by_rule}
-use Rattle.semantics.specs.Lists.{map}
 use Rattle.semantics.specs.Numbers.{refusal_number, limit_in, law_number}
 use Rattle.semantics.specs.State.{made}
 use Rattle.semantics.specs.Step.{answers}

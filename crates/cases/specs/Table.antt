@@ -1,10 +1,9 @@
 -- Tables of cases: calls that a watch meets, with the answers that they get. Assumes nothing.
-use Rattle.std.specs.Prelude.{◌≡◌, ℕ, List, [], ◌∷◌}
+use Rattle.std.specs.Prelude.{◌≡◌, ℕ, List, [], ◌∷◌, map}
 use Rattle.ordering.specs.Named.{named_orders}
 use Rattle.ordering.specs.declared.named.NamedRule.{NamedRule}
 use Rattle.semantics.specs.Calls.{Call}
 use Rattle.semantics.specs.Laws.{Precedes, by_rule}
-use Rattle.semantics.specs.Lists.{map}
 use Rattle.cases.specs.Records.{Shown, shown}
 use Rattle.semantics.specs.State.{State, made}
 use Rattle.semantics.specs.Step.{step, answers}

@@ -2,15 +2,11 @@
 ghost use Rattle.cases.specs.Ended.{UseCasesAgree, EndCasesAgree};
 
 // What sets the last use of an epoch.
-pub fn use_cases_agree() -> u8
+pub fn use_cases_agree()
     ensures { UseCasesAgree }
-{
-    0
-}
+{}
 
 // Laws 25, 26 and 29.
-pub fn end_cases_agree() -> u8
+pub fn end_cases_agree()
     ensures { EndCasesAgree }
-{
-    0
-}
+{}

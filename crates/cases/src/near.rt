@@ -2,8 +2,6 @@
 ghost use Rattle.cases.specs.Near.{LimitCasesAgree};
 
 // Each limit is reached, and not passed.
-pub fn limit_cases_agree() -> u8
+pub fn limit_cases_agree()
     ensures { LimitCasesAgree }
-{
-    0
-}
+{}

@@ -2,29 +2,21 @@
 ghost use Rattle.cases.specs.Performed.{PlaceCasesAgree, OrderCasesAgree, LeaveCasesAgree, ValueCasesAgree};
 
 // Law 21: what it is broken by, which operation it names, and what it goes before.
-pub fn place_cases_agree() -> u8
+pub fn place_cases_agree()
     ensures { PlaceCasesAgree }
-{
-    0
-}
+{}
 
 // Law 22: the same.
-pub fn order_cases_agree() -> u8
+pub fn order_cases_agree()
     ensures { OrderCasesAgree }
-{
-    0
-}
+{}
 
 // Law 23: the same.
-pub fn leave_cases_agree() -> u8
+pub fn leave_cases_agree()
     ensures { LeaveCasesAgree }
-{
-    0
-}
+{}
 
 // Law 24, and where a load has its value from.
-pub fn value_cases_agree() -> u8
+pub fn value_cases_agree()
     ensures { ValueCasesAgree }
-{
-    0
-}
+{}

@@ -2,22 +2,16 @@
 ghost use Rattle.cases.specs.Refused.{RefusalCasesAgree, UnchangedCasesAgree, CheckCasesAgree};
 
 // Each call of the table is refused, or taken, as it says.
-pub fn refusal_cases_agree() -> u8
+pub fn refusal_cases_agree()
     ensures { RefusalCasesAgree }
-{
-    0
-}
+{}
 
 // What follows a refused call is answered as if it had not been made.
-pub fn unchanged_cases_agree() -> u8
+pub fn unchanged_cases_agree()
     ensures { UnchangedCasesAgree }
-{
-    0
-}
+{}
 
 // Where two refusals apply, or a refusal and a law, the first in checking order is told.
-pub fn check_cases_agree() -> u8
+pub fn check_cases_agree()
     ensures { CheckCasesAgree }
-{
-    0
-}
+{}

@@ -2,15 +2,11 @@
 ghost use Rattle.cases.specs.Traced.{CleanCasesAgree, StartCasesAgree};
 
 // A trace is clean once a close answered so.
-pub fn clean_cases_agree() -> u8
+pub fn clean_cases_agree()
     ensures { CleanCasesAgree }
-{
-    0
-}
+{}
 
 // A place starts with what was preset last.
-pub fn start_cases_agree() -> u8
+pub fn start_cases_agree()
     ensures { StartCasesAgree }
-{
-    0
-}
+{}

@@ -15,7 +15,7 @@ use Rattle.semantics.specs.Limits.{last_place, places}
 use Rattle.semantics.specs.Lists.{first_some}
 use Rattle.semantics.specs.Puts.{put_clock, committed, put_value, put_ends, marked, put_thread, put_home, put_queues, without}
 use Rattle.semantics.specs.State.{Thread, State, idle, unused, thread_of, home_of, epoch_at, owed_as}
-use Rattle.consistency.proofs.Lists.{Mem, mem_push, mem_push_old, mem_push_new, find_some, keep_mem, mem_keep, Rising, rising_push, rising_keep, rising_one}
+use Rattle.consistency.proofs.Lists.{Mem, mem_push, mem_push_old, mem_push_new, find_some, filter_mem, mem_filter, Rising, rising_push, rising_filter, rising_one}
 use Rattle.consistency.proofs.Outstanding.{Ops, done_as}
 use Rattle.consistency.proofs.Homes.{Homes, judge_keeps_homes, same_keeps_homes, preset_keeps_homes}
 use Rattle.consistency.proofs.Laws.{Performs}
@@ -213,8 +213,8 @@ report_keeps {R} {ops} {prog} {start} s n e f i = record {
   each_thread = λ t. frame_keeps_thread (λ X h _. ⊎_elim inl (λ m. inr (back X m)) h) (λ X h. ⊎_elim inl (λ m. inr (on X m)) h) (λ _ g. g) (i.each_thread t);
   values = i.values;
   started = λ X h. i.started X (⊎_elim inl (λ m. inr (back X m)) h);
-  rising = rising_keep (λ (X : Ended). X.number) _ s.owed i.rising;
-  below = λ X m. i.below X (keep_mem _ s.owed X m).0;
+  rising = rising_filter (λ (X : Ended). X.number) _ s.owed i.rising;
+  below = λ X m. i.below X (filter_mem _ s.owed X m).0;
   long = i.long;
 }
   where
@@ -223,10 +223,10 @@ report_keeps {R} {ops} {prog} {start} s n e f i = record {
 
     owes : (X : Ended) → Mem X s.owed → (X.number ≡ n) ⊎ (X.number ≡ n → ⊥) → Mem X (insert e s.waiting) ⊎ Mem X (without n s.owed)
     owes X m (inl k) = inl (subst (λ z. Mem z (insert e s.waiting)) (sym (rising_one (λ (X : Ended). X.number) s.owed i.rising X e m fs.0 (k ∙ sym (eqb-true e.number n fs.1)))) (insert_here e s.waiting))
-    owes X m (inr ne) = inr (mem_keep (λ x. not (eqb x.number n)) s.owed X m (ap not (ne_eqb X.number n ne)))
+    owes X m (inr ne) = inr (mem_filter (λ x. not (eqb x.number n)) s.owed X m (ap not (ne_eqb X.number n ne)))
 
     back : (X : Ended) → Mem X (insert e s.waiting) ⊎ Mem X (without n s.owed) → Mem X s.waiting ⊎ Mem X s.owed
-    back X = ⊎_elim (λ m. ⊎_elim (λ k. inr (subst (λ z. Mem z s.owed) (sym k) fs.0)) inl (insert_mem e s.waiting X m)) (λ m. inr (keep_mem _ s.owed X m).0)
+    back X = ⊎_elim (λ m. ⊎_elim (λ k. inr (subst (λ z. Mem z s.owed) (sym k) fs.0)) inl (insert_mem e s.waiting X m)) (λ m. inr (filter_mem _ s.owed X m).0)
 
     on : (X : Ended) → Mem X s.waiting ⊎ Mem X s.owed → Mem X (insert e s.waiting) ⊎ Mem X (without n s.owed)
     on X = ⊎_elim (λ m. inl (insert_old e s.waiting X m)) (λ m. owes X m (cases_eq X.number n))

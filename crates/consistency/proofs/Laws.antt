@@ -1,6 +1,8 @@
 -- What the laws of a perform say where none is broken. Assumes nothing.
 use Rattle.std.proofs.Common.{◌≡◌, ℕ, ◌<◌, Bool, true, false, cond, not, ◌&&◌, eqb, ltb, ◌⊎◌, List, [], ◌∷◌, Some, None, Option, sym, refl, ap, ◌∙◌, subst, inl, inr, ⊎_elim, arith}
 use Rattle.std.proofs.lemmas.Bool.{true≢false, both_ways, cases_Bool, eqb-true, eq-eqb, lt-ltb, ltb-true, and_parts, and_from, and_right, or_cases, or_parts, or_from, or_right, cond-true}
+use Rattle.std.specs.List.{find, filter}
+use Rattle.std.specs.Option.{is_some}
 use Rattle.semantics.specs.declared.row.Operation.{Operation}
 use Rattle.semantics.specs.declared.row.Epoch.{Epoch}
 use Rattle.semantics.specs.declared.verdict.Law.{Law}
@@ -8,9 +10,9 @@ use Rattle.semantics.specs.declared.verdict.Law.TheVariants.{SamePlace, Ordered}
 use Rattle.semantics.specs.Classes.{reads, writes, touches, got, puts}
 use Rattle.semantics.specs.Effect.{load_answer, answer_of, uses_copy, touch, performed}
 use Rattle.semantics.specs.Laws.{Rule, by_rule, earlier, blame, law21, law22, law23, law24, forwarded, source_from, source, may_write, needs_value, perform_laws}
-use Rattle.semantics.specs.Lists.{is_some, find, keep, change}
+use Rattle.semantics.specs.Lists.{change}
 use Rattle.semantics.specs.State.{Thread, epoch_at}
-use Rattle.consistency.proofs.Lists.{Mem, find_none, keep_mem, mem_keep, Rising, rising_keep, last_none, last_some}
+use Rattle.consistency.proofs.Lists.{Mem, find_none, filter_mem, mem_filter, Rising, rising_filter, last_none, last_some}
 use Rattle.consistency.proofs.Outstanding.{Lawful, Forward}
 use Rattle.consistency.proofs.Tests.{never, first_some_none, cond_none, cond_none_not}
 
@@ -45,7 +47,7 @@ pub record Performs (R : Rule) (w : Thread) (o : Operation) (τ : ℕ) : Type 0 
   pub epoch : Pass w o τ ⊎ Touch w o τ
 
 earlier_mem : (w : Thread) (n : ℕ) (z : Operation) → Mem z w.pending → z.number < n → Mem z (earlier w n)
-earlier_mem w n z m l = mem_keep (λ o. ltb o.number n) w.pending z m (lt-ltb z.number n l)
+earlier_mem w n z m l = mem_filter (λ o. ltb o.number n) w.pending z m (lt-ltb z.number n l)
 
 -- Law 22: nothing that is ordered before o is outstanding.
 law22_free : (R : Rule) (w : Thread) (t : ℕ) (o : Operation) → law22 (by_rule R) w t o ≡ None → (z : Operation) → Mem z w.pending → z.number < o.number → by_rule R z o ≡ false
@@ -61,19 +63,19 @@ law21_free w t o e z m l c d p =
 
 -- The earlier outstanding stores to the place of o.
 abbrev stores_there : Thread → Operation → List Operation
-stores_there w o = keep (λ x. writes x.class && eqb x.place o.place) (earlier w o.number)
+stores_there w o = filter (λ x. writes x.class && eqb x.place o.place) (earlier w o.number)
 
 stands_there : (w : Thread) (o z : Operation) → Mem z w.pending → writes z.class ≡ true → z.place ≡ o.place → z.number < o.number → Mem z (stores_there w o)
-stands_there w o z m c p l = mem_keep (λ x. writes x.class && eqb x.place o.place) (earlier w o.number) z (earlier_mem w o.number z m l) (and_from _ _ c (eq-eqb z.place o.place p))
+stands_there w o z m c p l = mem_filter (λ x. writes x.class && eqb x.place o.place) (earlier w o.number) z (earlier_mem w o.number z m l) (and_from _ _ c (eq-eqb z.place o.place p))
 
 -- The store that o is forwarded from.
 forward_from : (w : Thread) (o s : Operation) → Rising (λ (o : Operation). o.number) w.pending → forwarded w o ≡ Some s → puts s ≡ got o → Forward w.pending o
 forward_from w o s rising f v =
-    let r = rising_keep (λ (o : Operation). o.number) (λ x. writes x.class && eqb x.place o.place) (earlier w o.number) (rising_keep (λ (o : Operation). o.number) (λ x. ltb x.number o.number) w.pending rising) in
+    let r = rising_filter (λ (o : Operation). o.number) (λ x. writes x.class && eqb x.place o.place) (earlier w o.number) (rising_filter (λ (o : Operation). o.number) (λ x. ltb x.number o.number) w.pending rising) in
     let l = last_some (λ (o : Operation). o.number) _ r s f in
-    let k = keep_mem (λ x. writes x.class && eqb x.place o.place) (earlier w o.number) s l.0 in
+    let k = filter_mem (λ x. writes x.class && eqb x.place o.place) (earlier w o.number) s l.0 in
     let two = and_parts (writes s.class) (eqb s.place o.place) k.1 in
-    let m = keep_mem (λ x. ltb x.number o.number) w.pending s k.0 in
+    let m = filter_mem (λ x. ltb x.number o.number) w.pending s k.0 in
     record {
       source = s;
       here = m.0;
@@ -115,10 +117,10 @@ perform_facts R w t o τ here rising e =
         -- What writes is never forwarded, by law 21.
         unwritten : writes o.class ≡ true → ⊥
         unwritten wr =
-            let l = last_some (λ (o : Operation). o.number) (stores_there w o) (rising_keep (λ (o : Operation). o.number) (λ x. writes x.class && eqb x.place o.place) (earlier w o.number) (rising_keep (λ (o : Operation). o.number) (λ x. ltb x.number o.number) w.pending rising)) s f in
-            let k = keep_mem (λ x. writes x.class && eqb x.place o.place) (earlier w o.number) s l.0 in
+            let l = last_some (λ (o : Operation). o.number) (stores_there w o) (rising_filter (λ (o : Operation). o.number) (λ x. writes x.class && eqb x.place o.place) (earlier w o.number) (rising_filter (λ (o : Operation). o.number) (λ x. ltb x.number o.number) w.pending rising)) s f in
+            let k = filter_mem (λ x. writes x.class && eqb x.place o.place) (earlier w o.number) s l.0 in
             let two = and_parts (writes s.class) (eqb s.place o.place) k.1 in
-            let m = keep_mem (λ x. ltb x.number o.number) w.pending s k.0 in
+            let m = filter_mem (λ x. ltb x.number o.number) w.pending s k.0 in
             law21_free w t o a s m.0 (ltb-true s.number o.number m.1) (or_right (reads s.class) (writes s.class) two.0) wr (eqb-true s.place o.place two.1)
     go a b may has val None f x q = by (cases_Bool (uses_copy w o)) x q
       where

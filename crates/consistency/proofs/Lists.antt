@@ -1,9 +1,10 @@
--- Lists: members, positions, rising keys, and what find, keep, change and last_of make. Assumes nothing.
+-- Lists: members, positions, rising keys, and what find, filter, change and last_of make. Assumes nothing.
 use Rattle.std.proofs.Common.{◌≡◌, ℕ, ◌<◌, ◌≤◌, Bool, true, false, cond, ltb, ◌⊎◌, List, [], ◌∷◌, ◌++◌, length, get_or, Some, None, Option, sym, refl, ap, ◌∙◌, subst, inl, inr, ⊎_elim, arith}
-use lib.ListN.{get_or-append}
 use Rattle.std.proofs.lemmas.List.{length_push, get_or_push}
 use Rattle.std.proofs.lemmas.Bool.{true≢false, both_ways, ltb-true, ltb-false}
-use Rattle.semantics.specs.Lists.{find, keep, last_of, change}
+use Rattle.std.specs.List.{find, filter}
+use lib.ListN.{get_or-append}
+use Rattle.semantics.specs.Lists.{last_of, change}
 
 -- x is a member.
 abbrev pub Mem : {A : Type 0} → A → List A → Type 0
@@ -91,40 +92,40 @@ find_push_yes p (x ∷ xs) y n e = by (p x) refl n (find_push_yes p xs y)
     by true q n ih = cc
     by false q n ih = rw q (ih n e)
 
--- What keep leaves.
-pub keep_mem : {A : Type 0} (p : A → Bool) (xs : List A) (x : A) → Mem x (keep p xs) → Mem x xs × (p x ≡ true)
-keep_mem p [] x m = absurd m
-keep_mem p (y ∷ ys) x m = by (p y) refl m (keep_mem p ys x)
+-- What filter leaves.
+pub filter_mem : {A : Type 0} (p : A → Bool) (xs : List A) (x : A) → Mem x (filter p xs) → Mem x xs × (p x ≡ true)
+filter_mem p [] x m = absurd m
+filter_mem p (y ∷ ys) x m = by (p y) refl m (filter_mem p ys x)
   where
-    by : (b : Bool) → p y ≡ b → Mem x (cond b (y ∷ keep p ys) (keep p ys)) → (Mem x (keep p ys) → Mem x ys × (p x ≡ true)) → ((x ≡ y) ⊎ Mem x ys) × (p x ≡ true)
+    by : (b : Bool) → p y ≡ b → Mem x (cond b (y ∷ filter p ys) (filter p ys)) → (Mem x (filter p ys) → Mem x ys × (p x ≡ true)) → ((x ≡ y) ⊎ Mem x ys) × (p x ≡ true)
     by true q (inl e) ih = (inl e, ap p e ∙ q)
     by true q (inr k) ih = let r = ih k in (inr r.0, r.1)
     by false q k ih = let r = ih k in (inr r.0, r.1)
 
-pub mem_keep : {A : Type 0} (p : A → Bool) (xs : List A) (x : A) → Mem x xs → p x ≡ true → Mem x (keep p xs)
-mem_keep p [] x m e = m
-mem_keep p (y ∷ ys) x m e = by (p y) refl m (λ k. mem_keep p ys x k e)
+pub mem_filter : {A : Type 0} (p : A → Bool) (xs : List A) (x : A) → Mem x xs → p x ≡ true → Mem x (filter p xs)
+mem_filter p [] x m e = m
+mem_filter p (y ∷ ys) x m e = by (p y) refl m (λ k. mem_filter p ys x k e)
   where
-    by : (b : Bool) → p y ≡ b → (x ≡ y) ⊎ Mem x ys → (Mem x ys → Mem x (keep p ys)) → Mem x (cond b (y ∷ keep p ys) (keep p ys))
+    by : (b : Bool) → p y ≡ b → (x ≡ y) ⊎ Mem x ys → (Mem x ys → Mem x (filter p ys)) → Mem x (cond b (y ∷ filter p ys) (filter p ys))
     by true q (inl r) ih = inl r
     by true q (inr k) ih = inr (ih k)
     by false q (inl r) ih = let z : true ≡ false = sym e ∙ ap p r ∙ q in absurd (true≢false z)
     by false q (inr k) ih = ih k
 
-pub find_keep : {A : Type 0} (f k : A → Bool) (xs : List A) → ((x : A) → f x ≡ true → k x ≡ true) → find f (keep k xs) ≡ find f xs
-find_keep f k [] h = refl
-find_keep f k (x ∷ xs) h = by (k x) refl (f x) refl (find_keep f k xs h)
+pub find_filter : {A : Type 0} (f k : A → Bool) (xs : List A) → ((x : A) → f x ≡ true → k x ≡ true) → find f (filter k xs) ≡ find f xs
+find_filter f k [] h = refl
+find_filter f k (x ∷ xs) h = by (k x) refl (f x) refl (find_filter f k xs h)
   where
-    by : (b : Bool) → k x ≡ b → (c : Bool) → f x ≡ c → find f (keep k xs) ≡ find f xs → find f (cond b (x ∷ keep k xs) (keep k xs)) ≡ cond (f x) (Some x) (find f xs)
+    by : (b : Bool) → k x ≡ b → (c : Bool) → f x ≡ c → find f (filter k xs) ≡ find f xs → find f (cond b (x ∷ filter k xs) (filter k xs)) ≡ cond (f x) (Some x) (find f xs)
     by true q c r ih = ap (λ z. cond (f x) (Some x) z) ih
     by false q true r ih = absurd (both_ways (k x) q (h x r))
     by false q false r ih = rw r ih
 
-pub find_kept_out : {A : Type 0} (f k : A → Bool) (xs : List A) → ((x : A) → f x ≡ true → k x ≡ false) → find f (keep k xs) ≡ None
+pub find_kept_out : {A : Type 0} (f k : A → Bool) (xs : List A) → ((x : A) → f x ≡ true → k x ≡ false) → find f (filter k xs) ≡ None
 find_kept_out f k [] h = refl
 find_kept_out f k (x ∷ xs) h = by (k x) refl (f x) refl (find_kept_out f k xs h)
   where
-    by : (b : Bool) → k x ≡ b → (c : Bool) → f x ≡ c → find f (keep k xs) ≡ None → find f (cond b (x ∷ keep k xs) (keep k xs)) ≡ None
+    by : (b : Bool) → k x ≡ b → (c : Bool) → f x ≡ c → find f (filter k xs) ≡ None → find f (cond b (x ∷ filter k xs) (filter k xs)) ≡ None
     by true q true r ih = absurd (both_ways (k x) (h x r) q)
     by true q false r ih = rw r ih
     by false q c r ih = ih
@@ -156,12 +157,12 @@ rising_push f [] z r h = (λ y m. absurd m, tt)
 rising_push f (x ∷ xs) z r h =
     (λ y m. ⊎_elim (λ k. r.0 y k) (λ e. subst (λ w. f x < f w) (sym e) (h x (inl refl))) (mem_push y z xs m), rising_push f xs z r.1 (λ y m. h y (inr m)))
 
-pub rising_keep : {A : Type 0} (f : A → ℕ) (p : A → Bool) (xs : List A) → Rising f xs → Rising f (keep p xs)
-rising_keep f p [] r = tt
-rising_keep f p (x ∷ xs) r = by (p x) (rising_keep f p xs r.1)
+pub rising_filter : {A : Type 0} (f : A → ℕ) (p : A → Bool) (xs : List A) → Rising f xs → Rising f (filter p xs)
+rising_filter f p [] r = tt
+rising_filter f p (x ∷ xs) r = by (p x) (rising_filter f p xs r.1)
   where
-    by : (b : Bool) → Rising f (keep p xs) → Rising f (cond b (x ∷ keep p xs) (keep p xs))
-    by true ih = (λ y m. r.0 y (keep_mem p xs y m).0, ih)
+    by : (b : Bool) → Rising f (filter p xs) → Rising f (cond b (x ∷ filter p xs) (filter p xs))
+    by true ih = (λ y m. r.0 y (filter_mem p xs y m).0, ih)
     by false ih = ih
 
 pub rising_one : {A : Type 0} (f : A → ℕ) (xs : List A) → Rising f xs → (x y : A) → Mem x xs → Mem y xs → f x ≡ f y → x ≡ y

@@ -1,15 +1,15 @@
 -- What is outstanding in a thread, beside what the thread has performed. Assumes nothing.
 use Rattle.std.proofs.Common.{◌≡◌, ℕ, ◌+◌, ◌<◌, ◌≤◌, Bool, true, false, not, eqb, ◌⊎◌, List, [], ◌∷◌, ◌++◌, length, get_or, sym, refl, ap, ◌∙◌, inl, inr, ⊎_elim, arith}
-use lib.ListN.{get_or-append}
 use Rattle.std.proofs.lemmas.List.{length_push, get_or_push}
 use Rattle.std.proofs.lemmas.Bool.{eqb-true, eqb-false, ne_eqb, not-true, cases_eq}
+use Rattle.std.specs.List.{filter}
+use lib.ListN.{get_or-append}
 use Rattle.semantics.specs.declared.row.Operation.{Operation}
 use Rattle.semantics.specs.Classes.{reads, writes, touches, got, puts}
 use Rattle.semantics.specs.Laws.{Rule, by_rule}
-use Rattle.semantics.specs.Lists.{keep}
 use Rattle.consistency.specs.Performed.{Performed, nothing, none}
 use Rattle.consistency.specs.Consistent.{orders_at}
-use Rattle.consistency.proofs.Lists.{Mem, mem_push, mem_push_old, mem_push_new, Nth, nth_all, nth_old, nth_new, keep_mem, mem_keep, Rising, rising_push, rising_keep, rising_one}
+use Rattle.consistency.proofs.Lists.{Mem, mem_push, mem_push_old, mem_push_new, Nth, nth_all, nth_old, nth_new, filter_mem, mem_filter, Rising, rising_push, rising_filter, rising_one}
 use Rattle.consistency.proofs.Positions.{ordered_as_rows, order_stays}
 
 abbrev pub Ops : Type 0
@@ -164,13 +164,13 @@ commit_keeps_sources ops {t} pend o e q f = λ i x h th c a. let s = f i x h th 
 
 -- An operation performs.
 abbrev pub left_over : Operation → List Operation → List Operation
-left_over o pend = keep (λ x. not (eqb x.number o.number)) pend
+left_over o pend = filter (λ x. not (eqb x.number o.number)) pend
 
 left : (o z : Operation) (pend : List Operation) → Mem z (left_over o pend) → Mem z pend × (z.number ≡ o.number → ⊥)
-left o z pend m = let k = keep_mem (λ x. not (eqb x.number o.number)) pend z m in (k.0, eqb-false z.number o.number (not-true _ k.1))
+left o z pend m = let k = filter_mem (λ x. not (eqb x.number o.number)) pend z m in (k.0, eqb-false z.number o.number (not-true _ k.1))
 
 stays : (o z : Operation) (pend : List Operation) → Mem z pend → (z.number ≡ o.number → ⊥) → Mem z (left_over o pend)
-stays o z pend m ne = mem_keep (λ x. not (eqb x.number o.number)) pend z m (ap not (ne_eqb z.number o.number ne))
+stays o z pend m ne = mem_filter (λ x. not (eqb x.number o.number)) pend z m (ap not (ne_eqb z.number o.number ne))
 
 -- What the laws say when o performs with the answer a.
 pub record Lawful (R : Rule) (pend : List Operation) (o : Operation) (a : ℕ) : Type 0 where
@@ -195,7 +195,7 @@ pub perform_keeps_outstanding : {R : Rule} (ops : Ops) {t : ℕ} (pend : List Op
 perform_keeps_outstanding {R} ops {t} pend {commits} prog o τ a w q =
     let y : Performed = done_as t τ a o in record {
       counted = q.counted;
-      rising = rising_keep (λ (o : Operation). o.number) (λ x. not (eqb x.number o.number)) pend q.rising;
+      rising = rising_filter (λ (o : Operation). o.number) (λ x. not (eqb x.number o.number)) pend q.rising;
       below = λ z m. q.below z (left o z pend m).0;
       known = λ z m. q.known z (left o z pend m).0;
       accounted = λ m l. ⊎_elim

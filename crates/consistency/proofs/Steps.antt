@@ -2,6 +2,8 @@
 use Rattle.std.proofs.Common.{◌≡◌, ℕ, zero, suc, ◌+◌, ◌<◌, Bool, true, false, not, eqb, ltb, List, [], ◌∷◌, ◌++◌, length, get_or, Some, None, Option, sym, refl, ap, ◌∙◌, subst, inl, ⊎_elim, arith}
 use Rattle.std.proofs.lemmas.List.{nil_from_length}
 use Rattle.std.proofs.lemmas.Bool.{both_ways, eqb-true, not-false, ltb-true, ltb-false, leb-false}
+use Rattle.std.specs.List.{find}
+use Rattle.std.specs.Option.{is_some}
 use Rattle.semantics.specs.declared.row.Operation.{Operation}
 use Rattle.semantics.specs.declared.row.Epoch.{Epoch}
 use Rattle.semantics.specs.declared.row.Ended.{Ended}
@@ -16,7 +18,7 @@ use Rattle.semantics.specs.Effect.{Outcome, answer_of, performed, opened, unless
 use Rattle.semantics.specs.Judging.{Judging, judge, judged_one, stop_at, go_on, home_laws, safe}
 use Rattle.semantics.specs.Laws.{Rule, by_rule, perform_laws, law25, law26, end_laws}
 use Rattle.semantics.specs.Limits.{last_place}
-use Rattle.semantics.specs.Lists.{find, is_some, first_of}
+use Rattle.semantics.specs.Lists.{first_of}
 use Rattle.semantics.specs.Puts.{put_thread, put_verdict}
 use Rattle.semantics.specs.Refusals.{refusals}
 use Rattle.semantics.specs.State.{Thread, State, idle, thread_of, home_of, outstanding_as, epoch_at, owed_as, busy_threads, busy}

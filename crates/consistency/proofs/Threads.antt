@@ -2,17 +2,18 @@
 use Rattle.std.proofs.Common.{◌≡◌, ℕ, ◌<◌, ◌≤◌, Bool, true, not, eqb, ◌⊎◌, List, [], ◌∷◌, ◌++◌, length, get_or, set, Some, None, Option, sym, refl, ap, ◌∙◌, subst, ⊎_elim}
 use Rattle.std.proofs.lemmas.List.{get_or-set_same, get_or-set_other}
 use Rattle.std.proofs.lemmas.Bool.{cases_eq, eqb-true, eq-eqb, ne_eqb, cond-true, cond-false}
+use Rattle.std.specs.List.{find, filter}
 use Rattle.semantics.specs.declared.row.Operation.{Operation}
 use Rattle.semantics.specs.declared.row.Epoch.{Epoch}
 use Rattle.semantics.specs.declared.row.Ended.{Ended}
 use Rattle.semantics.specs.Classes.{writes, puts}
 use Rattle.semantics.specs.Effect.{answer_of, touch, performed}
 use Rattle.semantics.specs.Laws.{Rule}
-use Rattle.semantics.specs.Lists.{find, keep, change}
+use Rattle.semantics.specs.Lists.{change}
 use Rattle.semantics.specs.Puts.{put_clock, put_epochs, committed}
 use Rattle.semantics.specs.State.{Thread, idle, epoch_at}
 use Rattle.consistency.specs.Performed.{Performed}
-use Rattle.consistency.proofs.Lists.{find_some, find_push_no, find_push_yes, find_keep, find_kept_out, find_change_same, find_change_other}
+use Rattle.consistency.proofs.Lists.{find_some, find_push_no, find_push_yes, find_filter, find_kept_out, find_change_same, find_change_other}
 use Rattle.consistency.proofs.Outstanding.{Ops, done_as, Outstanding, Sources, Times, other_keeps_outstanding, commit_keeps_outstanding, perform_keeps_outstanding, other_keeps_sources, commit_keeps_sources, perform_keeps_sources, other_keeps_times, raise_keeps_times, perform_keeps_times}
 use Rattle.consistency.proofs.Epochs.{Epochs, same_past_keeps_epochs, raise_keeps_epochs, pass_keeps_epochs, begin_keeps_epochs, touch_keeps_epochs, end_keeps_epochs}
 use Rattle.consistency.proofs.Laws.{Touch, Performs}
@@ -108,7 +109,7 @@ module _ {R : Rule} {ops : Ops} {prog : List Operation} {begun : ℕ → Bool} {
       → ((X : Ended) → Past' X → Past X ⊎ (X ≡ row)) → ((X : Ended) → Past X → Past' X) → Past' row
       → row.thread ≡ t → row.place ≡ e.place → row.from ≡ e.from → row.until ≡ τ → row.start ≡ e.start → row.last ≡ e.copy → row.writes ≡ e.writes
       → e.used < τ → w.clock ≤ τ → ThreadHolds R ops prog begun Past t w
-      → ThreadHolds R ops prog begun Past' t (put_clock (put_epochs w (keep (λ x. not (eqb x.place e.place)) w.epochs)) τ)
+      → ThreadHolds R ops prog begun Past' t (put_clock (put_epochs w (filter (λ x. not (eqb x.place e.place)) w.epochs)) τ)
   end_keeps_thread {Past'} p τ e row old back on here rt rp rf ru rs rv rw' u l k =
       record {
         outstanding = k.outstanding;
@@ -122,12 +123,12 @@ module _ {R : Rule} {ops : Ops} {prog : List Operation} {begun : ℕ → Bool} {
       pl = k.epochs.placed p e old
 
       ep' : ℕ → Option Epoch
-      ep' q = find (λ x. eqb x.place q) (keep (λ x. not (eqb x.place e.place)) w.epochs)
+      ep' q = find (λ x. eqb x.place q) (filter (λ x. not (eqb x.place e.place)) w.epochs)
 
       gone : ep' p ≡ None
       gone = find_kept_out (λ x. eqb x.place p) (λ x. not (eqb x.place e.place)) w.epochs
           (λ x h. ap not (eq-eqb x.place e.place (eqb-true x.place p h ∙ sym pl)))
 
       same : (q : ℕ) → (q ≡ p → ⊥) → ep' q ≡ epoch_at w q
-      same q ne = find_keep (λ x. eqb x.place q) (λ x. not (eqb x.place e.place)) w.epochs
+      same q ne = find_filter (λ x. eqb x.place q) (λ x. not (eqb x.place e.place)) w.epochs
           (λ x h. ap not (ne_eqb x.place e.place (λ i. ne (sym (eqb-true x.place q h) ∙ (i ∙ pl)))))

@@ -2,6 +2,8 @@
 use Rattle.std.proofs.Common.{◌≡◌, ℕ, ◌+◌, ◌≤◌, Bool, true, false, cond, not, ◌||◌, eqb, ltb, [], ◌∷◌, Some, None, Option, sym, refl, ap, ◌∙◌, subst, arith}
 use Rattle.std.proofs.lemmas.List.{nil_from_length}
 use Rattle.std.proofs.lemmas.Bool.{both_ways, eqb-true, not-false}
+use Rattle.std.specs.List.{find}
+use Rattle.std.specs.Option.{is_some}
 use Rattle.semantics.specs.declared.row.Operation.{Operation}
 use Rattle.semantics.specs.declared.row.Epoch.{Epoch}
 use Rattle.semantics.specs.declared.row.Ended.{Ended}
@@ -14,7 +16,7 @@ use Rattle.semantics.specs.Calls
 use Rattle.semantics.specs.Effect.{Outcome, unless_fault, settled, closed, perform_found, performing, end_found, ending, report_found, drop_found}
 use Rattle.semantics.specs.Judging.{Judging, judge, safe}
 use Rattle.semantics.specs.Laws.{Rule, Precedes, by_rule, perform_laws, end_laws}
-use Rattle.semantics.specs.Lists.{find, is_some, first_of}
+use Rattle.semantics.specs.Lists.{first_of}
 use Rattle.semantics.specs.Puts.{put_verdict}
 use Rattle.semantics.specs.Refusals.{refusals}
 use Rattle.semantics.specs.State.{State, thread_of, outstanding_as, epoch_at, owed_as, busy}

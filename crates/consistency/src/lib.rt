@@ -5,92 +5,66 @@ ghost use Rattle.consistency.specs.Examples.{CallsAreFollowed, RecordsAreClean, 
 ghost use Rattle.consistency.specs.Promises.{OrderIsTotal, CleanIsConsistent, CloseIsConsistent, CleanKeepsPlaces, CleanCopiesAreLatest, CleanPerformsAll, RefusedChangesNothing, ConvictedNeverClean, OneCleanClose};
 
 // What performed in a trace is ordered totally by time, then thread, then order of performing.
-pub fn order_is_total() -> u8
+pub fn order_is_total()
     ensures { OrderIsTotal }
-{
-    0
-}
+{}
 
 // A trace in which a close answered clean is consistent under the watch's rule.
-pub fn clean_is_consistent() -> u8
+pub fn clean_is_consistent()
     ensures { CleanIsConsistent }
-{
-    0
-}
+{}
 
 // A close that answers clean makes the trace that ends with it consistent.
-pub fn close_is_consistent() -> u8
+pub fn close_is_consistent()
     ensures { CloseIsConsistent }
-{
-    0
-}
+{}
 
 // In a clean trace a store comes after each earlier load or store of its thread to its place.
-pub fn clean_keeps_places() -> u8
+pub fn clean_keeps_places()
     ensures { CleanKeepsPlaces }
-{
-    0
-}
+{}
 
 // In a clean trace a load that read the copy has the value of the latest store before it in the order, else the starting value.
-pub fn clean_copies_are_latest() -> u8
+pub fn clean_copies_are_latest()
     ensures { CleanCopiesAreLatest }
-{
-    0
-}
+{}
 
 // In a clean trace every operation that a thread committed has performed, once.
-pub fn clean_performs_all() -> u8
+pub fn clean_performs_all()
     ensures { CleanPerformsAll }
-{
-    0
-}
+{}
 
 // A refused call leaves the state as it was.
-pub fn refused_changes_nothing() -> u8
+pub fn refused_changes_nothing()
     ensures { RefusedChangesNothing }
-{
-    0
-}
+{}
 
 // A trace with a conviction has no clean close.
-pub fn convicted_never_clean() -> u8
+pub fn convicted_never_clean()
     ensures { ConvictedNeverClean }
-{
-    0
-}
+{}
 
 // A trace has at most one clean close.
-pub fn one_clean_close() -> u8
+pub fn one_clean_close()
     ensures { OneCleanClose }
-{
-    0
-}
+{}
 
 // Every list of calls makes a trace that a watch has met.
-pub fn calls_are_followed() -> u8
+pub fn calls_are_followed()
     ensures { CallsAreFollowed }
-{
-    0
-}
+{}
 
 // Three lists of calls end with a clean close.
-pub fn records_are_clean() -> u8
+pub fn records_are_clean()
     ensures { RecordsAreClean }
-{
-    0
-}
+{}
 
 // One of them is convicted under a stricter rule.
-pub fn record_is_convicted() -> u8
+pub fn record_is_convicted()
     ensures { RecordIsConvicted }
-{
-    0
-}
+{}
 
 // A call of a thread that the watch does not have is refused.
-pub fn call_is_refused() -> u8
+pub fn call_is_refused()
     ensures { CallIsRefused }
-{
-    0
-}
+{}

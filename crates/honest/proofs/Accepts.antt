@@ -1,5 +1,6 @@
 -- What a thread's part of a watch accepts, call after call. Assumes nothing.
 use Rattle.std.proofs.Common.{◌≡◌, ℕ, ◌<◌, ◌≤◌, true, not, eqb, List, [], ◌∷◌, ◌++◌, Some, None}
+use Rattle.std.specs.List.{filter}
 use Rattle.semantics.specs.declared.row.Epoch.{Epoch}
 use Rattle.semantics.specs.declared.row.Operation.{Operation}
 use Rattle.semantics.specs.Calls.{Call, preset, commit, perform, advance, begin, end, report, drop, settle, close}
@@ -7,7 +8,6 @@ use Rattle.semantics.specs.Classes.{touches, last_class, op_class, operation}
 use Rattle.semantics.specs.Effect.{opened, performed}
 use Rattle.semantics.specs.Laws.{Precedes, perform_laws}
 use Rattle.semantics.specs.Limits.{last_place, last_kind}
-use Rattle.semantics.specs.Lists.{keep}
 use Rattle.semantics.specs.Puts.{put_clock, put_epochs, committed}
 use Rattle.semantics.specs.State.{Thread, outstanding_as, epoch_at}
 
@@ -19,7 +19,7 @@ abbrev pub enters : Thread → Epoch → Thread
 enters w e = put_clock (put_epochs w (w.epochs ++ (e ∷ []))) e.from
 
 abbrev pub leaves : Thread → Epoch → ℕ → Thread
-leaves w e τ = put_clock (put_epochs w (keep (λ x. not (eqb x.place e.place)) w.epochs)) τ
+leaves w e τ = put_clock (put_epochs w (filter (λ x. not (eqb x.place e.place)) w.epochs)) τ
 
 -- The thread takes these calls, one after another, with no conviction, and then has nothing outstanding or open.
 abbrev pub Accepts : Precedes → ℕ → Thread → List Call → Type 0

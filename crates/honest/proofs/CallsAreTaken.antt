@@ -1,7 +1,10 @@
 -- Each call of a record is taken, and keeps the invariant. Assumes nothing.
-use Rattle.std.proofs.Common.{◌≡◌, ℕ, ◌+◌, ◌-◌, ◌<◌, ◌≤◌, Bool, true, false, cond, not, ◌&&◌, eqb, ltb, List, [], ◌∷◌, ◌++◌, length, get_or, Some, None, Option, sym, refl, ap, ◌∙◌, subst, append_assoc, arith, length-append, length-set}
-use mathlib.Core.Path.{fun_ext}
+use Rattle.std.proofs.Common.{◌≡◌, ℕ, ◌+◌, ◌-◌, ◌<◌, ◌≤◌, Bool, true, false, cond, not, ◌&&◌, eqb, ltb, List, [], ◌∷◌, ◌++◌, length, get_or, Some, None, Option, sym, refl, ap, ◌∙◌, subst, append_assoc, arith, length-append, length-set, map}
 use Rattle.std.proofs.lemmas.Bool.{eqb-true, eq-eqb, ltb-true, ltb-false, lt-ltb, le-ltb, lt-leb}
+use Rattle.std.specs.List.{find, filter}
+use Rattle.std.specs.Option.{is_some}
+use Rattle.std.proofs.lemmas.List.{length-map, map-append}
+use mathlib.Core.Path.{fun_ext}
 use Rattle.semantics.specs.declared.row.Ended.{Ended}
 use Rattle.semantics.specs.declared.row.Epoch.{Epoch}
 use Rattle.semantics.specs.declared.row.Operation.{Operation}
@@ -14,7 +17,7 @@ use Rattle.semantics.specs.Effect.{answer_of, uses_copy, touch, performed, perfo
 use Rattle.semantics.specs.Judging.{insert, safe}
 use Rattle.semantics.specs.Laws.{Precedes, perform_laws, law25, law26, end_laws}
 use Rattle.semantics.specs.Limits.{last_place, last_kind, most_outstanding, most_commits, most_open, most_begins, most_owed, most_waiting}
-use Rattle.semantics.specs.Lists.{is_some, find, keep, change, map, first_some}
+use Rattle.semantics.specs.Lists.{change, first_some}
 use Rattle.semantics.specs.Puts.{put_clock, put_thread, put_queues, without, marked}
 use Rattle.semantics.specs.State.{State, Thread, idle, thread_of, home_of, outstanding_as, owed_as}
 use Rattle.honest.specs.Limits.{Use, committing, performing, advancing, beginning, ending, before_safe, epoch_from, opened_from, notice_from, owed_from, Room}
@@ -23,12 +26,12 @@ use Rattle.honest.specs.Record.{own_steps, NotAfter}
 use Rattle.honest.proofs.Accepts.{commits_to, enters, leaves, Accepts}
 use Rattle.honest.proofs.Invariant.{ThreadFacts, Invariant, Next, unrefused, accepts_here, accepts_put, threads_put, starts_put, invariant_thread, starts_of}
 use Rattle.honest.proofs.Judgeable.{Judgeable, judgeable_home}
-use Rattle.honest.proofs.JudgesWithoutFault.{Sorted, unnumbered, pick_insert, sorted_insert, sorted_keep, home_put, judges}
+use Rattle.honest.proofs.JudgesWithoutFault.{Sorted, unnumbered, pick_insert, sorted_insert, sorted_filter, home_put, judges}
 use Rattle.honest.proofs.Ends.{start_of, ended_epochs, except_at, ends_in}
-use Rattle.honest.proofs.Lists.{by_test, find_is, find_map, find_map_some, keep_map, map_append, map_length, map_change}
-use Rattle.honest.proofs.Rising.{Rising, rising_push, rising_keep, rising_pick}
+use Rattle.honest.proofs.Lists.{by_test, find_is, find_map, find_map_some, filter_of_map, map_change}
+use Rattle.honest.proofs.Rising.{Rising, rising_push, rising_filter, rising_pick}
 use Rattle.honest.proofs.SafeTime.{open_epoch, notice, use_of, safe_told, starts, tail_late}
-use Rattle.honest.proofs.SameElements.{Pick, Same, more, same_move, same_length, same_keep, pick_map, pick_left, pick_right, pick_length}
+use Rattle.honest.proofs.SameElements.{Pick, Same, more, same_move, same_length, same_filter, pick_map, pick_left, pick_right, pick_length}
 use Rattle.honest.proofs.Standing.{step_time, Placed}
 
 place_off : (b : Bool) (p : ℕ) → (b ≡ true → p ≤ last_place) → (b && ltb last_place p) ≡ false
@@ -75,7 +78,7 @@ next_perform B n s a t k τ cs i =
     let w : Thread = performed (W t) o τ in
     let ok : o.number ≡ k = eqb-true o.number k (find_is (λ x. eqb x.number k) (W t).pending o g.2.1) in
     let pk = pick_length (rising_pick (λ x. x.number) k 0 (W t).pending (W t).commits o (i.threads.numbered t) g.2.1) in
-    let lk : length w.pending ≡ length (keep (λ x. not (eqb x.number k)) (W t).pending) = ap (λ z. length (keep (λ x. not (eqb x.number z)) (W t).pending)) ok in
+    let lk : length w.pending ≡ length (filter (λ x. not (eqb x.number k)) (W t).pending) = ap (λ z. length (filter (λ x. not (eqb x.number z)) (W t).pending)) ok in
     let one_less : length (W t).pending - 1 ≡ length w.pending = omega arith in
     record {
       number = answer_of (W t) o;
@@ -85,7 +88,7 @@ next_perform B n s a t k τ cs i =
       kept = invariant_thread B n s a (perform t k τ) cs t w (performing τ (a.threads t)) i g.0
           (accepts_put B n W t (perform t k τ) cs i.threads.accepts w g.2.3)
           (ap (performing τ) (i.threads.used t) ∙ performed_use (W t) o τ one_less)
-          (rising_keep (λ o. o.number) (λ x. not (eqb x.number o.number)) 0 (W t).pending (W t).commits (i.threads.numbered t))
+          (rising_filter (λ o. o.number) (λ x. not (eqb x.number o.number)) 0 (W t).pending (W t).commits (i.threads.numbered t))
           (performed_keeps start_of (W t) o τ (λ _. refl)) i.same;
     }
 
@@ -134,7 +137,7 @@ next_begin B n s a t k p v τ cs i room =
     let e : Epoch = opened k p v τ in
     let w : Thread = enters (W t) e in
     let h = marked (home_of s p) in
-    let len : length (a.threads t).opened ≡ length (W t).epochs = ap (λ z. length z.opened) (i.threads.used t) ∙ map_length open_epoch (W t).epochs in
+    let len : length (a.threads t).opened ≡ length (W t).epochs = ap (λ z. length z.opened) (i.threads.used t) ∙ length-map (W t).epochs open_epoch in
     record {
       number = 0;
       state = begun s t e;
@@ -147,7 +150,7 @@ next_begin B n s a t k p v τ cs i room =
         threads = threads_put B n s a.threads t (beginning p τ (a.threads t)) w cs (omega arith) i.threads.used i.threads.numbered
             (accepts_put B n W t (begin t k p v τ) cs i.threads.accepts w g.5)
             (ap (beginning p τ) (i.threads.used t)
-            ∙ ap (λ z. record { clock = τ; committed = (W t).commits; outstanding = length (W t).pending; opened = z }) (sym (map_append open_epoch (W t).epochs (e ∷ []))))
+            ∙ ap (λ z. record { clock = τ; committed = (W t).commits; outstanding = length (W t).pending; opened = z }) (sym (map-append open_epoch (W t).epochs (e ∷ []))))
             (i.threads.numbered t);
         begun = ap (λ z. z + 1) i.begun;
         ended = i.ended;
@@ -157,7 +160,7 @@ next_begin B n s a t k p v τ cs i room =
         sorted = i.sorted;
         pool = i.pool;
         same = subst (λ o. Same (map unnumbered s.waiting ++ (map unnumbered s.owed ++ ends_in o cs)) i.pool)
-            (sym (starts_put s t w (omega arith) ∙ ap (put (starts s) t) (map_append start_of (W t).epochs (e ∷ [])))) i.same;
+            (sym (starts_put s t w (omega arith) ∙ ap (put (starts s) t) (map-append start_of (W t).epochs (e ∷ [])))) i.same;
         laws = λ q. subst (λ z. Judgeable q z i.pool) (sym (home_put s p h (omega arith) q))
             (by_test (λ b. Judgeable q (cond b h (home_of s q)) i.pool) (eqb q p)
             (λ b. subst (λ z. Judgeable q z i.pool) (ap (λ x. marked (home_of s x)) (eqb-true q p b)) (judgeable_home q (home_of s q) (marked (home_of s q)) i.pool refl refl refl (i.laws q)))
@@ -181,7 +184,7 @@ next_end B n s a t p v τ cs i room =
     let e = g.3.0 in
     let w : Thread = leaves (W t) e τ in
     let ep : e.place ≡ p = eqb-true e.place p (find_is (λ x. eqb x.place p) (W t).epochs e g.3.1) in
-    let ol : length a.owed ≡ length s.owed = ap length i.owed ∙ map_length notice s.owed in
+    let ol : length a.owed ≡ length s.owed = ap length i.owed ∙ length-map s.owed notice in
     let r = ended_row s.ends t e v τ in
     let fo : opened_from p (a.threads t) ≡ e.from = ap (opened_from p) (i.threads.used t) ∙ ap epoch_from (find_map (λ x. eqb x.place p) open_epoch (W t).epochs e g.3.1) in
     let A = ends_in (put (starts s) t (except_at (starts s t) p)) cs in
@@ -198,20 +201,20 @@ next_end B n s a t p v τ cs i room =
         threads = threads_put B n s a.threads t (ending p τ (a.threads t)) w cs (omega arith) i.threads.used i.threads.numbered
             (accepts_put B n W t (end t p v τ) cs i.threads.accepts w g.3.4)
             (ap (ending p τ) (i.threads.used t) ∙ ap (λ z. record { clock = τ; committed = (W t).commits; outstanding = length (W t).pending; opened = z })
-            (keep_map (λ e. not (eqb e.place p)) open_epoch (W t).epochs ∙ ap (λ z. map open_epoch (keep (λ x. not (eqb x.place z)) (W t).epochs)) (sym ep)))
+            (filter_of_map (λ e. not (eqb e.place p)) open_epoch (W t).epochs ∙ ap (λ z. map open_epoch (filter (λ x. not (eqb x.place z)) (W t).epochs)) (sym ep)))
             (i.threads.numbered t);
         begun = i.begun;
         ended = ap (λ z. z + 1) i.ended;
         owed = ap (λ z. a.owed ++ (record { number = a.ended; from = z } ∷ [])) fo ∙ ap (λ z. a.owed ++ (record { number = z; from = e.from } ∷ [])) i.ended
-            ∙ ap (λ z. z ++ (notice r ∷ [])) i.owed ∙ sym (map_append notice s.owed (r ∷ []));
+            ∙ ap (λ z. z ++ (notice r ∷ [])) i.owed ∙ sym (map-append notice s.owed (r ∷ []));
         rising = rising_push (λ e. e.number) 0 s.owed s.ends r refl i.rising;
         waiting = i.waiting;
         sorted = i.sorted;
         pool = i.pool;
         same = subst (λ o. Same (map unnumbered s.waiting ++ (map unnumbered (s.owed ++ (r ∷ [])) ++ ends_in o cs)) i.pool)
-            (sym (starts_put s t w (omega arith) ∙ ap (put (starts s) t) (ap (λ z. map start_of (keep (λ x. not (eqb x.place z)) (W t).epochs)) ep ∙ sym (keep_map (λ l. not (eqb l.place p)) start_of (W t).epochs))))
+            (sym (starts_put s t w (omega arith) ∙ ap (put (starts s) t) (ap (λ z. map start_of (filter (λ x. not (eqb x.place z)) (W t).epochs)) ep ∙ sym (filter_of_map (λ l. not (eqb l.place p)) start_of (W t).epochs))))
             (subst (λ z. Same (map unnumbered s.waiting ++ z) i.pool)
-            (sym (ap (λ z. z ++ A) (map_append unnumbered s.owed (r ∷ [])) ∙ append_assoc (map unnumbered s.owed) (unnumbered r ∷ []) A))
+            (sym (ap (λ z. z ++ A) (map-append unnumbered s.owed (r ∷ [])) ∙ append_assoc (map unnumbered s.owed) (unnumbered r ∷ []) A))
             (subst (λ z. Same (map unnumbered s.waiting ++ (map unnumbered s.owed ++ (ended_epochs t z v τ ++ A))) i.pool) (find_map (λ l. eqb l.place p) start_of (W t).epochs e g.3.1) i.same));
         laws = i.laws;
       };
@@ -225,7 +228,7 @@ next_report B n s a k cs i st room =
     let rest = without k s.owed in
     let A = ends_in (starts s) cs in
     let pk : Pick e s.owed rest = rising_pick (λ x. x.number) k 0 s.owed s.ends e i.rising fd in
-    let wl : length a.waiting ≡ length s.waiting = same_length i.waiting ∙ map_length (λ e. e.from) s.waiting in
+    let wl : length a.waiting ≡ length s.waiting = same_length i.waiting ∙ length-map s.waiting (λ e. e.from) in
     let from : owed_from k a ≡ e.from = ap notice_from st.1 ∙ sym (ap (λ z. z.from) f.is) in
     let tb = i.threads in
     record {
@@ -239,8 +242,8 @@ next_report B n s a k cs i st room =
         threads = record { accepts = tb.accepts; used = tb.used; numbered = tb.numbered };
         begun = i.begun;
         ended = i.ended;
-        owed = ap (keep (λ x. not (eqb x.number k))) i.owed ∙ keep_map (λ x. not (eqb x.number k)) notice s.owed;
-        rising = rising_keep (λ e. e.number) (λ x. not (eqb x.number k)) 0 s.owed s.ends i.rising;
+        owed = ap (filter (λ x. not (eqb x.number k))) i.owed ∙ filter_of_map (λ x. not (eqb x.number k)) notice s.owed;
+        rising = rising_filter (λ e. e.number) (λ x. not (eqb x.number k)) 0 s.owed s.ends i.rising;
         waiting = subst (λ z. Same (z ∷ a.waiting) (map (λ e. e.from) (insert e s.waiting))) (sym from) (more (pick_map (λ e. e.from) (pick_insert e s.waiting)) i.waiting);
         sorted = sorted_insert e s.waiting i.sorted;
         pool = i.pool;
@@ -272,10 +275,10 @@ next_settle B n s a cs pos i =
         ended = i.ended ∙ sym j.ends;
         owed = i.owed ∙ ap (map notice) (sym j.owed);
         rising = subst (λ z. Rising (λ e. e.number) 0 z st.ends) (sym j.owed) (subst (λ z. Rising (λ e. e.number) 0 s.owed z) (sym j.ends) i.rising);
-        waiting = subst (λ z. Same (keep (λ x. not (before_safe n a x)) a.waiting) z)
-            (ap (λ f. keep f (map (λ e. e.from) s.waiting)) same_test ∙ keep_map (λ x. not (ltb x (safe s))) (λ e. e.from) s.waiting ∙ ap (map (λ e. e.from)) (sym j.waiting))
-            (same_keep (λ x. not (before_safe n a x)) i.waiting);
-        sorted = subst Sorted (sym j.waiting) (sorted_keep (λ e. not (due e)) s.waiting i.sorted);
+        waiting = subst (λ z. Same (filter (λ x. not (before_safe n a x)) a.waiting) z)
+            (ap (λ f. filter f (map (λ e. e.from) s.waiting)) same_test ∙ filter_of_map (λ x. not (ltb x (safe s))) (λ e. e.from) s.waiting ∙ ap (map (λ e. e.from)) (sym j.waiting))
+            (same_filter (λ x. not (before_safe n a x)) i.waiting);
+        sorted = subst Sorted (sym j.waiting) (sorted_filter (λ e. not (due e)) s.waiting i.sorted);
         pool = j.pool;
         same = subst (λ z. Same (map unnumbered st.waiting ++ (map unnumbered z ++ ends_in (starts st) cs)) j.pool) (sym j.owed)
             (subst (λ o. Same (map unnumbered st.waiting ++ (map unnumbered s.owed ++ ends_in o cs)) j.pool) (sym (ap starts_of te)) j.same);

@@ -1,10 +1,10 @@
 -- The epochs that end in a list of calls. Assumes nothing.
 use Rattle.std.proofs.Common.{◌≡◌, ℕ, Bool, cond, not, eqb, List, [], ◌∷◌, ◌++◌, Some, None, Option, arith}
 use Rattle.std.proofs.lemmas.Bool.Decides.{nat_tests}
+use Rattle.std.specs.List.{find, filter}
 use Rattle.semantics.specs.declared.row.Ended.{Ended}
 use Rattle.semantics.specs.declared.row.Epoch.{Epoch}
 use Rattle.semantics.specs.Calls.{Call, preset, commit, perform, advance, begin, end, report, drop, settle, close}
-use Rattle.semantics.specs.Lists.{find, keep}
 use Rattle.honest.specs.Machine.{put}
 
 -- What an epoch has from its begin until its end.
@@ -32,7 +32,7 @@ abbrev pub start_at : List EpochStart → ℕ → Option EpochStart
 start_at ls p = find (λ l. eqb l.place p) ls
 
 abbrev pub except_at : List EpochStart → ℕ → List EpochStart
-except_at ls p = keep (λ l. not (eqb l.place p)) ls
+except_at ls p = filter (λ l. not (eqb l.place p)) ls
 
 -- The epochs that end in these calls, in the order of their ends, where the threads have these epochs open.
 abbrev pub ends_in : (ℕ → List EpochStart) → List Call → List Ended

@@ -1,8 +1,8 @@
 -- Every call of a record within the limits is taken, and its close answers clean. Assumes nothing.
-use Rattle.std.proofs.Common.{◌≡◌, ℕ, suc, ◌<◌, ◌≤◌, Bool, true, false, cond, not, eqb, ◌⊎◌, List, [], ◌∷◌, ◌++◌, length, get_or, set, replicate, sym, refl, ap, ◌∙◌, subst, inl, inr, arith, length-set}
-use mathlib.Core.Path.{fun_ext}
+use Rattle.std.proofs.Common.{◌≡◌, ℕ, suc, ◌<◌, ◌≤◌, Bool, true, false, cond, not, eqb, ◌⊎◌, List, [], ◌∷◌, ◌++◌, length, get_or, set, replicate, sym, refl, ap, ◌∙◌, subst, inl, inr, arith, length-set, map}
 use Rattle.std.proofs.lemmas.Bool.{eq-eqb, le-ltb, cases_lt, true≢false}
 use Rattle.std.proofs.lemmas.List.{get_or_past, get_or-replicate, length-replicate}
+use mathlib.Core.Path.{fun_ext}
 use Rattle.semantics.specs.declared.row.Ended.{Ended}
 use Rattle.semantics.specs.declared.row.Home.{Home}
 use Rattle.semantics.specs.declared.verdict.Verdict.TheVariants.{Running}
@@ -11,7 +11,6 @@ use Rattle.semantics.specs.Calls
 use Rattle.semantics.specs.Effect.{closed}
 use Rattle.semantics.specs.Laws.{Precedes, by_rule}
 use Rattle.semantics.specs.Limits.{last_place, places}
-use Rattle.semantics.specs.Lists.{map}
 use Rattle.semantics.specs.Puts.{put_value}
 use Rattle.semantics.specs.State.{State, Thread, idle, unused, made, busy_threads, busy}
 use Rattle.semantics.specs.Step.{step, answers}

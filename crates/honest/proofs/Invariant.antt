@@ -1,8 +1,8 @@
 -- The invariant of a watch that has met the front of a record, and how a change of one thread keeps it. Assumes nothing.
-use Rattle.std.proofs.Common.{◌≡◌, ℕ, ◌<◌, Bool, true, false, cond, eqb, ◌⊎◌, List, [], ◌∷◌, ◌++◌, length, get_or, set, Some, None, Option, sym, refl, ap, ◌∙◌, subst, inl, inr, arith, length-set}
-use mathlib.Core.Path.{fun_ext}
+use Rattle.std.proofs.Common.{◌≡◌, ℕ, ◌<◌, Bool, true, false, cond, eqb, ◌⊎◌, List, [], ◌∷◌, ◌++◌, length, get_or, set, Some, None, Option, sym, refl, ap, ◌∙◌, subst, inl, inr, arith, length-set, map}
 use Rattle.std.proofs.lemmas.Bool.{eqb-true, eqb-false, eq-eqb, ne_eqb, cases_eq}
 use Rattle.std.proofs.lemmas.List.{get_or-set_same, get_or-set_other}
+use mathlib.Core.Path.{fun_ext}
 use Rattle.semantics.specs.declared.row.Ended.{Ended}
 use Rattle.semantics.specs.declared.verdict.Refusal.{Refusal}
 use Rattle.semantics.specs.declared.verdict.Verdict.TheVariants.{Running}
@@ -10,7 +10,7 @@ use Rattle.semantics.specs.Calls.{Call, taken}
 use Rattle.semantics.specs.Effect.{effect}
 use Rattle.semantics.specs.Laws.{Precedes}
 use Rattle.semantics.specs.Limits.{places}
-use Rattle.semantics.specs.Lists.{first_of, map}
+use Rattle.semantics.specs.Lists.{first_of}
 use Rattle.semantics.specs.Puts.{put_thread}
 use Rattle.semantics.specs.Refusals.{Test, stopped_by, stopped, checks, halted, refusals}
 use Rattle.semantics.specs.State.{State, Thread, idle, thread_of, home_of}

@@ -1,19 +1,19 @@
 -- The waiting stand by begin, and judging them finds no fault. Assumes nothing.
-use Rattle.std.proofs.Common.{◌≡◌, ℕ, ◌+◌, ◌<◌, ◌≤◌, Bool, true, false, cond, not, eqb, leb, ◌⊎◌, List, [], ◌∷◌, ◌++◌, length, get_or, set, Some, None, Option, sym, refl, ap, ◌∙◌, subst, inl, inr, arith, length-set}
+use Rattle.std.proofs.Common.{◌≡◌, ℕ, ◌+◌, ◌<◌, ◌≤◌, Bool, true, false, cond, not, eqb, leb, ◌⊎◌, List, [], ◌∷◌, ◌++◌, length, get_or, set, Some, None, Option, sym, refl, ap, ◌∙◌, subst, inl, inr, arith, length-set, map}
 use Rattle.std.proofs.lemmas.Bool.{eqb-true, eqb-false, eq-eqb, ne_eqb, cases_eq, leb-true, leb-false, not_from_false}
 use Rattle.std.proofs.lemmas.List.{get_or-set_same, get_or-set_other}
+use Rattle.std.specs.List.{filter}
 use Rattle.queue.specs.Fields.{in_turn}
 use Rattle.semantics.specs.declared.row.Ended.{Ended}
 use Rattle.semantics.specs.declared.row.Home.{Home}
 use Rattle.semantics.specs.declared.verdict.Conviction.{Conviction}
 use Rattle.semantics.specs.Judging.{ended_le, insert, home_laws, judged_home, judged_one, stop_at, go_on, judge}
 use Rattle.semantics.specs.Limits.{places}
-use Rattle.semantics.specs.Lists.{keep, map}
 use Rattle.semantics.specs.Puts.{put_queues}
 use Rattle.semantics.specs.State.{State, unused, home_of}
 use Rattle.honest.specs.Machine.{Every, put}
 use Rattle.honest.proofs.Judgeable.{sound_laws, Judgeable, judge_one, judge_rest}
-use Rattle.honest.proofs.Lists.{by_test, every_to, every_append, every_map, every_keep, keep_all}
+use Rattle.honest.proofs.Lists.{by_test, every_to, every_append, every_map, every_filter, filter_all}
 use Rattle.honest.proofs.SameElements.{Pick, here, there, Same, more, every_pick, every_same}
 
 -- The waiting, by begin.
@@ -47,10 +47,10 @@ sorted_insert e (x ∷ xs) s = let r = sorted_insert e xs s.1 in
     (λ b. let le = le_from e x b in ((le, every_to (λ f (l : x.from ≤ f.from). omega arith) xs s.0), s))
     (λ b. (every_pick (λ f. x.from ≤ f.from) (pick_insert e xs) (not_le_from e x b) s.0, r))
 
-pub sorted_keep : (f : Ended → Bool) (ws : List Ended) → Sorted ws → Sorted (keep f ws)
-sorted_keep f [] s = tt
-sorted_keep f (x ∷ xs) s = let r = sorted_keep f xs s.1 in
-    by_test (λ b. Sorted (cond b (x ∷ keep f xs) (keep f xs))) (f x) (λ _. (every_keep (λ g. x.from ≤ g.from) f xs s.0, r)) (λ _. r)
+pub sorted_filter : (f : Ended → Bool) (ws : List Ended) → Sorted ws → Sorted (filter f ws)
+sorted_filter f [] s = tt
+sorted_filter f (x ∷ xs) s = let r = sorted_filter f xs s.1 in
+    by_test (λ b. Sorted (cond b (x ∷ filter f xs) (filter f xs))) (f x) (λ _. (every_filter (λ g. x.from ≤ g.from) f xs s.0, r)) (λ _. r)
 
 -- An ended epoch without its notice.
 abbrev pub unnumbered : Ended → Ended
@@ -75,7 +75,7 @@ pub record WithoutFault (due : Ended → Bool) (s : State) (ws : List Ended) (k 
   pub ends : state.ends ≡ s.ends
   pub verdict : state.verdict ≡ s.verdict
   pub homes : length state.homes ≡ places
-  pub waiting : state.waiting ≡ keep (λ e. not (due e)) ws
+  pub waiting : state.waiting ≡ filter (λ e. not (due e)) ws
   pub pool : List Ended
   pub same : Same (map unnumbered state.waiting ++ tail) pool
   pub laws : (p : ℕ) → Judgeable p (home_of state p) pool
@@ -133,7 +133,7 @@ module _ (due : Ended → Bool) (falls : (x y : Ended) → x.from ≤ y.from →
             ends = r.ends;
             verdict = r.verdict;
             homes = r.homes;
-            waiting = r.waiting ∙ sym (ap (λ b. cond (not b) (e ∷ keep (λ e. not (due e)) es) (keep (λ e. not (due e)) es)) d);
+            waiting = r.waiting ∙ sym (ap (λ b. cond (not b) (e ∷ filter (λ e. not (due e)) es) (filter (λ e. not (due e)) es)) d);
             pool = r.pool;
             same = r.same;
             laws = r.laws;
@@ -148,7 +148,7 @@ module _ (due : Ended → Bool) (falls : (x y : Ended) → x.from ≤ y.from →
         ends = refl;
         verdict = refl;
         homes = hm;
-        waiting = sym (keep_all (λ x. not (due x)) (e ∷ es) (not_from_false (due e) d, every_to (λ f l. not_from_false (due f) (falls e f l d)) es so.0));
+        waiting = sym (filter_all (λ x. not (due x)) (e ∷ es) (not_from_false (due e) d, every_to (λ f l. not_from_false (due f) (falls e f l d)) es so.0));
         pool = pool;
         same = whole;
         laws = g;

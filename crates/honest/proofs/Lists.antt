@@ -1,6 +1,7 @@
 -- Lists that are searched, filtered and mapped, and what holds of every element. Assumes nothing.
-use Rattle.std.proofs.Common.{◌≡◌, ℕ, zero, suc, ◌<◌, Bool, true, false, cond, List, [], ◌∷◌, ◌++◌, length, get_or, Some, None, Option, sym, refl, ap, ◌∙◌, subst, le_of_suc-le-suc, not-suc-le-zero, arith}
-use Rattle.semantics.specs.Lists.{find, keep, map, flat, last_of, change}
+use Rattle.std.proofs.Common.{◌≡◌, ℕ, zero, suc, ◌<◌, Bool, true, false, cond, List, [], ◌∷◌, ◌++◌, length, get_or, Some, None, Option, sym, refl, ap, ◌∙◌, subst, le_of_suc-le-suc, not-suc-le-zero, arith, map}
+use Rattle.std.specs.List.{find, filter, flat_map}
+use Rattle.semantics.specs.Lists.{last_of, change}
 use Rattle.honest.specs.Machine.{Every}
 
 -- A match on a test that keeps the equation.
@@ -40,30 +41,18 @@ find_map f g [] x e = absurd (none≢some e)
 find_map f g (y ∷ ys) x e = let r = find_map f g ys x in grind arith
 
 -- What is filtered and mapped.
-pub keep_map : {A B : Type 0} (f : B → Bool) (g : A → B) (xs : List A) → keep f (map g xs) ≡ map g (keep (λ z. f (g z)) xs)
-keep_map f g [] = refl
-keep_map f g (x ∷ xs) = let r = keep_map f g xs in grind arith
-
-pub map_append : {A B : Type 0} (g : A → B) (xs ys : List A) → map g (xs ++ ys) ≡ map g xs ++ map g ys
-map_append g [] ys = refl
-map_append g (x ∷ xs) ys = ap (λ z. g x ∷ z) (map_append g xs ys)
-
-pub map_length : {A B : Type 0} (g : A → B) (xs : List A) → length (map g xs) ≡ length xs
-map_length g [] = refl
-map_length g (x ∷ xs) = ap suc (map_length g xs)
+pub filter_of_map : {A B : Type 0} (f : B → Bool) (g : A → B) (xs : List A) → filter f (map g xs) ≡ map g (filter (λ z. f (g z)) xs)
+filter_of_map f g [] = refl
+filter_of_map f g (x ∷ xs) = let r = filter_of_map f g xs in grind arith
 
 pub map_change : {A B : Type 0} (g : A → B) (f : A → Bool) (h : A → A) → ((x : A) → g (h x) ≡ g x) → (xs : List A) → map g (change f h xs) ≡ map g xs
 map_change g f h e [] = refl
 map_change g f h e (x ∷ xs) = let r = map_change g f h e xs in
     by_test (λ b. map g (cond b (h x ∷ xs) (x ∷ change f h xs)) ≡ g x ∷ map g xs) (f x) (λ _. ap (λ z. z ∷ map g xs) (e x)) (λ _. ap (λ z. g x ∷ z) r)
 
-pub keep_all : {A : Type 0} (f : A → Bool) (xs : List A) → Every (λ x. f x ≡ true) xs → keep f xs ≡ xs
-keep_all f [] h = refl
-keep_all f (x ∷ xs) h = let r = keep_all f xs h.1 in let a = h.0 in grind arith
-
-pub keep_append : {A : Type 0} (f : A → Bool) (xs ys : List A) → keep f (xs ++ ys) ≡ keep f xs ++ keep f ys
-keep_append f [] ys = refl
-keep_append f (x ∷ xs) ys = let r = keep_append f xs ys in grind arith
+pub filter_all : {A : Type 0} (f : A → Bool) (xs : List A) → Every (λ x. f x ≡ true) xs → filter f xs ≡ xs
+filter_all f [] h = refl
+filter_all f (x ∷ xs) h = let r = filter_all f xs h.1 in let a = h.0 in grind arith
 
 -- What holds of every element.
 pub every_to : {A : Type 0} {P Q : A → Type 0} → ((x : A) → P x → Q x) → (xs : List A) → Every P xs → Every Q xs
@@ -78,9 +67,9 @@ pub every_map : {A B : Type 0} (P : B → Type 0) (f : A → B) (xs : List A) �
 every_map P f [] h = tt
 every_map P f (x ∷ xs) h = (h.0, every_map P f xs h.1)
 
-pub every_keep : {A : Type 0} (P : A → Type 0) (f : A → Bool) (xs : List A) → Every P xs → Every P (keep f xs)
-every_keep P f [] h = tt
-every_keep P f (x ∷ xs) h = let r = every_keep P f xs h.1 in by_test (λ b. Every P (cond b (x ∷ keep f xs) (keep f xs))) (f x) (λ _. (h.0, r)) (λ _. r)
+pub every_filter : {A : Type 0} (P : A → Type 0) (f : A → Bool) (xs : List A) → Every P xs → Every P (filter f xs)
+every_filter P f [] h = tt
+every_filter P f (x ∷ xs) h = let r = every_filter P f xs h.1 in by_test (λ b. Every P (cond b (x ∷ filter f xs) (filter f xs))) (f x) (λ _. (h.0, r)) (λ _. r)
 
 pub every_split : {A : Type 0} (P : A → Type 0) (xs ys : List A) → Every P (xs ++ ys) → Every P xs × Every P ys
 every_split P [] ys h = (tt, h)
@@ -90,13 +79,13 @@ pub every_unmap : {A B : Type 0} (P : B → Type 0) (f : A → B) (xs : List A) 
 every_unmap P f [] h = tt
 every_unmap P f (x ∷ xs) h = (h.0, every_unmap P f xs h.1)
 
-pub every_flat : {A B : Type 0} (P : B → Type 0) (f : A → List B) (xs : List A) → Every (λ x. Every P (f x)) xs → Every P (flat f xs)
-every_flat P f [] h = tt
-every_flat P f (x ∷ xs) h = every_append P (f x) (flat f xs) h.0 (every_flat P f xs h.1)
+pub every_flat_map : {A B : Type 0} (P : B → Type 0) (f : A → List B) (xs : List A) → Every (λ x. Every P (f x)) xs → Every P (flat_map f xs)
+every_flat_map P f [] h = tt
+every_flat_map P f (x ∷ xs) h = every_append P (f x) (flat_map f xs) h.0 (every_flat_map P f xs h.1)
 
-pub every_unflat : {A B : Type 0} (P : B → Type 0) (f : A → List B) (xs : List A) → Every P (flat f xs) → Every (λ x. Every P (f x)) xs
-every_unflat P f [] h = tt
-every_unflat P f (x ∷ xs) h = let r = every_split P (f x) (flat f xs) h in (r.0, every_unflat P f xs r.1)
+pub every_unflat_map : {A B : Type 0} (P : B → Type 0) (f : A → List B) (xs : List A) → Every P (flat_map f xs) → Every (λ x. Every P (f x)) xs
+every_unflat_map P f [] h = tt
+every_unflat_map P f (x ∷ xs) h = let r = every_split P (f x) (flat_map f xs) h in (r.0, every_unflat_map P f xs r.1)
 
 pub every_at : {A : Type 0} (P : A → Type 0) (d : A) (xs : List A) (i : ℕ) → i < length xs → Every P xs → P (get_or xs i d)
 every_at P d [] i l h = absurd (not-suc-le-zero l)
@@ -119,17 +108,17 @@ every_found P f (y ∷ ys) x h e = go (f y) refl (every_found P f ys x h.1)
     go false b r = r (sym (ap (λ z. cond z (Some y) (find f ys)) b) ∙ e)
 
 -- The last that passes a test.
-pub last_none : {A : Type 0} (f : A → Bool) (xs : List A) → Every (λ x. f x ≡ false) xs → last_of (keep f xs) ≡ None
+pub last_none : {A : Type 0} (f : A → Bool) (xs : List A) → Every (λ x. f x ≡ false) xs → last_of (filter f xs) ≡ None
 last_none f [] h = refl
-last_none f (x ∷ xs) h = ap (λ b. last_of (cond b (x ∷ keep f xs) (keep f xs))) h.0 ∙ last_none f xs h.1
+last_none f (x ∷ xs) h = ap (λ b. last_of (cond b (x ∷ filter f xs) (filter f xs))) h.0 ∙ last_none f xs h.1
 
 last_push : {A : Type 0} (x s : A) (xs : List A) → last_of xs ≡ Some s → last_of (x ∷ xs) ≡ Some s
 last_push x s xs e = cc
 
-pub last_some : {A : Type 0} (f : A → Bool) (front : List A) (s : A) (back : List A) → f s ≡ true → Every (λ x. f x ≡ false) back → last_of (keep f (front ++ (s ∷ back))) ≡ Some s
-last_some f [] s back e h = ap (λ b. last_of (cond b (s ∷ keep f back) (keep f back))) e ∙ last_one (last_none f back h)
+pub last_some : {A : Type 0} (f : A → Bool) (front : List A) (s : A) (back : List A) → f s ≡ true → Every (λ x. f x ≡ false) back → last_of (filter f (front ++ (s ∷ back))) ≡ Some s
+last_some f [] s back e h = ap (λ b. last_of (cond b (s ∷ filter f back) (filter f back))) e ∙ last_one (last_none f back h)
   where
-    last_one : last_of (keep f back) ≡ None → last_of (s ∷ keep f back) ≡ Some s
+    last_one : last_of (filter f back) ≡ None → last_of (s ∷ filter f back) ≡ Some s
     last_one n = cc
 last_some f (x ∷ xs) s back e h = let r = last_some f xs s back e h in
-    by_test (λ b. last_of (cond b (x ∷ keep f (xs ++ (s ∷ back))) (keep f (xs ++ (s ∷ back)))) ≡ Some s) (f x) (λ _. last_push x s (keep f (xs ++ (s ∷ back))) r) (λ _. r)
+    by_test (λ b. last_of (cond b (x ∷ filter f (xs ++ (s ∷ back))) (filter f (xs ++ (s ∷ back)))) ≡ Some s) (f x) (λ _. last_push x s (filter f (xs ++ (s ∷ back))) r) (λ _. r)

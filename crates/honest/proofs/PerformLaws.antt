@@ -1,6 +1,8 @@
 -- An operation that the machine performs breaks none of the laws of a perform, and what it leaves of the epochs. Assumes nothing.
 use Rattle.std.proofs.Common.{◌≡◌, ℕ, Bool, true, false, cond, not, ◌&&◌, ◌||◌, eqb, List, [], ◌∷◌, Some, None, Option, sym, refl, ap, ◌∙◌}
 use Rattle.std.proofs.lemmas.Bool.{eqb-true, eq-eqb, true≢false, or_parts, and_from}
+use Rattle.std.specs.List.{find}
+use Rattle.std.specs.Option.{is_some}
 use Rattle.semantics.specs.declared.class.OpClass.{OpClass}
 use Rattle.semantics.specs.declared.class.OpClass.TheVariants.{Load, Store, Barrier}
 use Rattle.semantics.specs.declared.row.Epoch.{Epoch}
@@ -10,7 +12,7 @@ use Rattle.semantics.specs.declared.verdict.Law.TheVariants.{SamePlace, Ordered,
 use Rattle.semantics.specs.Classes.{reads, writes, touches, got, puts}
 use Rattle.semantics.specs.Effect.{performed, touch, uses_copy}
 use Rattle.semantics.specs.Laws.{Precedes, earlier, blame, law21, law22, law23, law24, lacks_leave, may_write, forwarded, source_from, source, needs_value, perform_laws}
-use Rattle.semantics.specs.Lists.{is_some, find, change, first_some}
+use Rattle.semantics.specs.Lists.{change, first_some}
 use Rattle.semantics.specs.State.{Thread, epoch_at}
 use Rattle.honest.specs.Machine.{Unordered, Clear, StoresTo}
 use Rattle.honest.proofs.Lists.{find_none, every_to}

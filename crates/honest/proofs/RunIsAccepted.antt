@@ -2,13 +2,14 @@
 use Rattle.std.proofs.Common.{◌≡◌, ℕ, ◌+◌, ◌≤◌, Bool, true, false, cond, not, ◌&&◌, eqb, ltb, List, [], ◌∷◌, ◌++◌, Some, None, Option, sym, refl, ap, ◌∙◌, subst, arith}
 use Rattle.std.proofs.lemmas.Bool.{eqb-true, eqb-false, eq-eqb, ne_eqb}
 use Rattle.std.proofs.lemmas.Bool.Decides.{nat_tests}
+use Rattle.std.specs.List.{find, filter}
 use Rattle.semantics.specs.declared.row.Epoch.{Epoch}
 use Rattle.semantics.specs.declared.row.Operation.{Operation}
 use Rattle.semantics.specs.Calls.{Call, commit, perform, begin, end}
 use Rattle.semantics.specs.Classes.{writes, operation, puts}
 use Rattle.semantics.specs.Effect.{opened, performed, touch}
 use Rattle.semantics.specs.Laws.{Precedes, earlier, forwarded, perform_laws}
-use Rattle.semantics.specs.Lists.{find, keep, last_of, change}
+use Rattle.semantics.specs.Lists.{last_of, change}
 use Rattle.semantics.specs.State.{Thread, idle, outstanding_as, epoch_at}
 use Rattle.honest.specs.Machine.{Machine, Hold, put, put_hold, Unordered, Clear, NoStore, LastStore, taken_at, used_at, Performs, commits, performs_barrier, performs_store, performs_load_early, performs_load, takes_to_read, takes_to_write, gives_back, Run, stays, goes, starting, AtRest}
 use Rattle.honest.specs.Record.{own_steps}
@@ -16,7 +17,7 @@ use Rattle.honest.proofs.Accepts.{commits_to, enters, leaves, Accepts}
 use Rattle.honest.proofs.Holds.{put_at, put_other, option_none, Alone, alone_touch, alone_give, alone_read, alone_write}
 use Rattle.honest.proofs.Lists.{by_test, none≢some, find_is, every_to, last_none, last_some}
 use Rattle.honest.proofs.PerformLaws.{load_writes_not, no_store_test, store_test, laws_barrier, laws_store, laws_early, laws_load, epochs_barrier, epochs_early, epochs_load, epochs_store}
-use Rattle.honest.proofs.Rising.{Rising, rising_push, rising_keep, split_before, split_find, split_without}
+use Rattle.honest.proofs.Rising.{Rising, rising_push, rising_filter, split_before, split_find, split_without}
 
 -- What a thread's hold of a place has to do with its epoch there, where the memory has the value v.
 abbrev Agree : ℕ → Option Hold → Option Epoch → Type 0
@@ -39,7 +40,7 @@ at_began : (es : List Epoch) (e : Epoch) (q : ℕ) → find (λ x. eqb x.place e
 at_began [] e q n = grind (arith, nat_tests)
 at_began (x ∷ xs) e q n = let r = at_began xs e q in grind (arith, nat_tests)
 
-at_left : (es : List Epoch) (p q : ℕ) → find (λ x. eqb x.place q) (keep (λ x. not (eqb x.place p)) es) ≡ cond (eqb q p) None (find (λ x. eqb x.place q) es)
+at_left : (es : List Epoch) (p q : ℕ) → find (λ x. eqb x.place q) (filter (λ x. not (eqb x.place p)) es) ≡ cond (eqb q p) None (find (λ x. eqb x.place q) es)
 at_left [] p q = grind (arith, nat_tests)
 at_left (x ∷ xs) p q = let r = at_left xs p q in grind (arith, nat_tests)
 
@@ -97,23 +98,23 @@ module _ (w : Thread) (before : List Operation) (o : Operation) (later : List Op
   rises = subst (λ l. Rising (λ o. o.number) 0 l w.commits) pa nu
 
   is_earlier : earlier w o.number ≡ before
-  is_earlier = ap (keep (λ x. ltb x.number o.number)) pa ∙ split_before (λ o. o.number) 0 before o later w.commits rises
+  is_earlier = ap (filter (λ x. ltb x.number o.number)) pa ∙ split_before (λ o. o.number) 0 before o later w.commits rises
 
   is_found : outstanding_as w o.number ≡ Some o
   is_found = ap (find (λ x. eqb x.number o.number)) pa ∙ split_find (λ o. o.number) 0 before o later w.commits rises
 
   is_without : (τ : ℕ) → (performed w o τ).pending ≡ before ++ later
-  is_without τ = ap (keep (λ x. not (eqb x.number o.number))) pa ∙ split_without (λ o. o.number) 0 before o later w.commits rises
+  is_without τ = ap (filter (λ x. not (eqb x.number o.number))) pa ∙ split_without (λ o. o.number) 0 before o later w.commits rises
 
   still_numbered : (τ : ℕ) → Rising (λ o. o.number) 0 (performed w o τ).pending w.commits
-  still_numbered τ = rising_keep (λ o. o.number) (λ x. not (eqb x.number o.number)) 0 w.pending w.commits nu
+  still_numbered τ = rising_filter (λ o. o.number) (λ x. not (eqb x.number o.number)) 0 w.pending w.commits nu
 
   none_forwarded : NoStore before o.place → forwarded w o ≡ None
-  none_forwarded h = ap (λ l. last_of (keep (λ x. writes x.class && eqb x.place o.place) l)) is_earlier
+  none_forwarded h = ap (λ l. last_of (filter (λ x. writes x.class && eqb x.place o.place) l)) is_earlier
       ∙ last_none (λ x. writes x.class && eqb x.place o.place) before (every_to (λ x. no_store_test o.place x) before h)
 
   one_forwarded : (s : Operation) → LastStore before o.place s → forwarded w o ≡ Some s
-  one_forwarded s h = ap (λ l. last_of (keep (λ x. writes x.class && eqb x.place o.place) l)) (is_earlier ∙ h.among)
+  one_forwarded s h = ap (λ l. last_of (filter (λ x. writes x.class && eqb x.place o.place) l)) (is_earlier ∙ h.among)
       ∙ last_some (λ x. writes x.class && eqb x.place o.place) h.front s h.back (store_test o.place s h.stores) (every_to (λ x. no_store_test o.place x) h.back h.last)
 
 -- A machine in which thread u has performed, and the view of it: of another thread, and of the thread itself.
@@ -292,7 +293,7 @@ module _ {B : Precedes} {n : ℕ} where
           sym at.4,
           accepts_from run t (leaves w at.0 τ) (alone_give m.holds u p a) (view_held m t u τ w (leaves w at.0 τ) holds v le (omega arith) refl refl
               (λ q. subst (λ l. Agree (m.memory q) (holds t q) l)
-              (sym (ap (λ z. find (λ x. eqb x.place q) (keep (λ x. not (eqb x.place z)) w.epochs)) ep ∙ at_left w.epochs p q))
+              (sym (ap (λ z. find (λ x. eqb x.place q) (filter (λ x. not (eqb x.place z)) w.epochs)) ep ∙ at_left w.epochs p q))
               (agree_own (eqb q p) (eqb t u) (m.memory q) (m.holds t q) None (epoch_at w q) None (eq-eqb t u (sym e)) (λ b. tt) (λ b. v.epochs q)))) r,
         ),
       ))

@@ -1,14 +1,15 @@
 -- The safe time: what lies below it, and that nothing that is still to be judged begins before it. Assumes nothing.
-use Rattle.std.proofs.Common.{◌≡◌, ℕ, zero, suc, ◌<◌, ◌≤◌, min, Bool, true, false, cond, not, ◌&&◌, eqb, ltb, ◌⊎◌, List, [], ◌∷◌, ◌++◌, length, Some, None, Option, sym, refl, ap, ◌∙◌, subst, inl, inr, not-suc-le-zero, arith}
+use Rattle.std.proofs.Common.{◌≡◌, ℕ, zero, suc, ◌<◌, ◌≤◌, min, Bool, true, false, cond, not, ◌&&◌, eqb, ltb, ◌⊎◌, List, [], ◌∷◌, ◌++◌, length, Some, None, Option, sym, refl, ap, ◌∙◌, subst, inl, inr, not-suc-le-zero, arith, map}
 use Rattle.std.proofs.lemmas.Bool.{eqb-true, eq-eqb, cases_eq, cases_lt, ltb-true, lt-ltb, and_parts, and_from}
 use Rattle.std.proofs.lemmas.List.{get_or_past}
+use Rattle.std.specs.List.{flat_map, fold}
 use Rattle.semantics.specs.declared.row.Ended.{Ended}
 use Rattle.semantics.specs.declared.row.Epoch.{Epoch}
 use Rattle.semantics.specs.Calls.{Call, preset, commit, perform, advance, begin, end, report, drop, settle, close}
 use Rattle.semantics.specs.Effect.{opened, performed}
 use Rattle.semantics.specs.Judging.{times, safe}
 use Rattle.semantics.specs.Laws.{Precedes}
-use Rattle.semantics.specs.Lists.{map, flat, least, least_of}
+use Rattle.semantics.specs.Lists.{least_of}
 use Rattle.semantics.specs.State.{State, Thread, idle, thread_of}
 use Rattle.honest.specs.Limits.{OpenEpoch, Notice, ThreadUse, Use, below_each, below_threads, before_safe}
 use Rattle.honest.specs.Machine.{Every, put}
@@ -16,14 +17,14 @@ use Rattle.honest.specs.Record.{own_steps}
 use Rattle.honest.proofs.Accepts.{commits_to, enters, leaves, Accepts}
 use Rattle.honest.proofs.JudgesWithoutFault.{unnumbered}
 use Rattle.honest.proofs.Ends.{EpochStart, start_of, new_start, ended_epochs, start_at, except_at, ends_in}
-use Rattle.honest.proofs.Lists.{by_test, every_to, every_append, every_map, every_keep, every_split, every_unmap, every_flat, every_unflat, every_at, every_from, every_push, every_found}
+use Rattle.honest.proofs.Lists.{by_test, every_to, every_append, every_map, every_filter, every_split, every_unmap, every_flat_map, every_unflat_map, every_at, every_from, every_push, every_found}
 
 -- Numbers all of which are above.
-least_low : (x m : ℕ) (ys : List ℕ) → x < least m ys → (x < m) × Every (λ y. x < y) ys
+least_low : (x m : ℕ) (ys : List ℕ) → x < fold min m ys → (x < m) × Every (λ y. x < y) ys
 least_low x m [] h = (h, tt)
 least_low x m (y ∷ ys) h = let r = least_low x (min m y) ys h in let a = r.0 in (omega arith, (omega arith, r.1))
 
-least_high : (x m : ℕ) (ys : List ℕ) → x < m → Every (λ y. x < y) ys → x < least m ys
+least_high : (x m : ℕ) (ys : List ℕ) → x < m → Every (λ y. x < y) ys → x < fold min m ys
 least_high x m [] h e = h
 least_high x m (y ∷ ys) h e = let a = e.0 in least_high x (min m y) ys (omega arith) e.1
 
@@ -39,7 +40,7 @@ all_high x (y ∷ ys) l h = least_high x y ys h.0 h.1
 abbrev clocked : Thread → List ℕ
 clocked w = w.clock ∷ map (λ e. e.from) w.epochs
 
-some_times : (ws : List Thread) (ys : List ℕ) → 0 < length ws → 0 < length (flat clocked ws ++ ys)
+some_times : (ws : List Thread) (ys : List ℕ) → 0 < length ws → 0 < length (flat_map clocked ws ++ ys)
 some_times [] ys l = absurd (not-suc-le-zero l)
 some_times (w ∷ ws) ys l = omega arith
 
@@ -52,8 +53,8 @@ pub record Low (x n : ℕ) (W : ℕ → Thread) (owed : List Ended) : Type 0 whe
 low_from_safe : (x : ℕ) (s : State) → x < safe s → Low x (length s.threads) (thread_of s) s.owed
 low_from_safe x s h =
     let P : ℕ → Type 0 = λ y. x < y in
-    let a = every_split P (flat clocked s.threads) (map (λ e. e.from) s.owed) (all_low x (times s) h) in
-    let c = every_unflat P clocked s.threads a.0 in
+    let a = every_split P (flat_map clocked s.threads) (map (λ e. e.from) s.owed) (all_low x (times s) h) in
+    let c = every_unflat_map P clocked s.threads a.0 in
     record {
       clock = λ t l. (every_at (λ w. Every P (clocked w)) idle s.threads t l c).0;
       opened = λ t l. every_unmap P (λ e. e.from) (thread_of s t).epochs (every_at (λ w. Every P (clocked w)) idle s.threads t l c).1;
@@ -64,8 +65,8 @@ safe_from_low : (x : ℕ) (s : State) → 0 < length s.threads → Low x (length
 safe_from_low x s l h =
     let P : ℕ → Type 0 = λ y. x < y in
     all_high x (times s) (some_times s.threads (map (λ e. e.from) s.owed) l)
-    (every_append P (flat clocked s.threads) (map (λ e. e.from) s.owed)
-    (every_flat P clocked s.threads
+    (every_append P (flat_map clocked s.threads) (map (λ e. e.from) s.owed)
+    (every_flat_map P clocked s.threads
     (every_from (λ w. Every P (clocked w)) idle s.threads (λ t k. (h.clock t k, every_map P (λ e. e.from) (thread_of s t).epochs (h.opened t k)))))
     (every_map P (λ e. e.from) s.owed h.owes))
 
@@ -207,7 +208,7 @@ ends_late x o (begin u k p v τ ∷ cs) h l =
     (λ t. by_test (λ b. Late x (cond b (begin u k p v τ ∷ own_steps t cs) (own_steps t cs)) → Late x (own_steps t cs)) (eqb u t) (λ _ z. z.1) (λ _ z. z) (l t))
 ends_late x o (end u p v τ ∷ cs) h l =
     let r = ends_late x (put o u (except_at (o u) p)) cs
-    (put_every (λ l. x ≤ l.from) o u (except_at (o u) p) h (every_keep (λ l. x ≤ l.from) (λ l. not (eqb l.place p)) (o u) (h u)))
+    (put_every (λ l. x ≤ l.from) o u (except_at (o u) p) h (every_filter (λ l. x ≤ l.from) (λ l. not (eqb l.place p)) (o u) (h u)))
     (λ t. by_test (λ b. Late x (cond b (end u p v τ ∷ own_steps t cs) (own_steps t cs)) → Late x (own_steps t cs)) (eqb u t) (λ _ z. z) (λ _ z. z) (l t)) in
     every_append (λ f. x ≤ f.from) (ended_epochs u (start_at (o u) p) v τ) (ends_in (put o u (except_at (o u) p)) cs) (go (start_at (o u) p) refl) r
   where

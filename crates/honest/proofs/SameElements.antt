@@ -1,6 +1,6 @@
 -- Lists with the same elements, each as often, in any order. Assumes nothing.
-use Rattle.std.proofs.Common.{◌≡◌, suc, Bool, true, false, cond, List, [], ◌∷◌, ◌++◌, length, sym, refl, ap, ◌∙◌, subst}
-use Rattle.semantics.specs.Lists.{keep, map}
+use Rattle.std.proofs.Common.{◌≡◌, suc, Bool, true, false, cond, List, [], ◌∷◌, ◌++◌, length, sym, refl, ap, ◌∙◌, subst, map}
+use Rattle.std.specs.List.{filter}
 use Rattle.honest.specs.Machine.{Every}
 use Rattle.honest.proofs.Lists.{by_test}
 
@@ -70,16 +70,16 @@ same_length none = refl
 same_length (more p s) = ap suc (same_length s) ∙ sym (pick_length p)
 
 -- A filter keeps what is the same the same.
-pick_keep : {A : Type 0} (f : A → Bool) {x : A} {xs ys : List A} → f x ≡ true → Pick x xs ys → Pick x (keep f xs) (keep f ys)
-pick_keep f {x} e (here {xs = xs}) = subst (λ b. Pick x (cond b (x ∷ keep f xs) (keep f xs)) (keep f xs)) (sym e) here
-pick_keep f {x} e (there {y = y} {xs = xs} {ys = ys} p) = let r = pick_keep f e p in
-    by_test (λ b. Pick x (cond b (y ∷ keep f xs) (keep f xs)) (cond b (y ∷ keep f ys) (keep f ys))) (f y) (λ b. there r) (λ b. r)
+pick_filter : {A : Type 0} (f : A → Bool) {x : A} {xs ys : List A} → f x ≡ true → Pick x xs ys → Pick x (filter f xs) (filter f ys)
+pick_filter f {x} e (here {xs = xs}) = subst (λ b. Pick x (cond b (x ∷ filter f xs) (filter f xs)) (filter f xs)) (sym e) here
+pick_filter f {x} e (there {y = y} {xs = xs} {ys = ys} p) = let r = pick_filter f e p in
+    by_test (λ b. Pick x (cond b (y ∷ filter f xs) (filter f xs)) (cond b (y ∷ filter f ys) (filter f ys))) (f y) (λ b. there r) (λ b. r)
 
-pick_lost : {A : Type 0} (f : A → Bool) {x : A} {xs ys : List A} → f x ≡ false → Pick x xs ys → keep f xs ≡ keep f ys
-pick_lost f {x} e (here {xs = xs}) = ap (λ b. cond b (x ∷ keep f xs) (keep f xs)) e
+pick_lost : {A : Type 0} (f : A → Bool) {x : A} {xs ys : List A} → f x ≡ false → Pick x xs ys → filter f xs ≡ filter f ys
+pick_lost f {x} e (here {xs = xs}) = ap (λ b. cond b (x ∷ filter f xs) (filter f xs)) e
 pick_lost f {x} e (there {y = y} p) = ap (λ l. cond (f y) (y ∷ l) l) (pick_lost f e p)
 
-pub same_keep : {A : Type 0} (f : A → Bool) {xs ys : List A} → Same xs ys → Same (keep f xs) (keep f ys)
-same_keep f none = none
-same_keep f (more {x = x} {xs = xs} {ys = ys} p s) = let r = same_keep f s in
-    by_test (λ b. Same (cond b (x ∷ keep f xs) (keep f xs)) (keep f ys)) (f x) (λ b. more (pick_keep f b p) r) (λ b. subst (Same (keep f xs)) (sym (pick_lost f b p)) r)
+pub same_filter : {A : Type 0} (f : A → Bool) {xs ys : List A} → Same xs ys → Same (filter f xs) (filter f ys)
+same_filter f none = none
+same_filter f (more {x = x} {xs = xs} {ys = ys} p s) = let r = same_filter f s in
+    by_test (λ b. Same (cond b (x ∷ filter f xs) (filter f xs)) (filter f ys)) (f x) (λ b. more (pick_filter f b p) r) (λ b. subst (Same (filter f xs)) (sym (pick_lost f b p)) r)

@@ -1,18 +1,19 @@
 -- Two lists of calls with the same steps of each thread end the same epochs. Assumes nothing.
 use Rattle.std.proofs.Common.{◌≡◌, ℕ, cond, eqb, ◌⊎◌, List, [], ◌∷◌, ◌++◌, Some, None, Option, sym, refl, ap, ◌∙◌, subst, inl, inr, arith}
 use Rattle.std.proofs.lemmas.Bool.{eqb-true, eqb-false, eq-eqb, ne_eqb, cases_eq}
+use Rattle.std.specs.List.{filter}
+use Rattle.std.proofs.lemmas.List.Elements.{filter-append}
 use Rattle.semantics.specs.declared.row.Ended.{Ended}
 use Rattle.semantics.specs.Calls.{Call, preset, commit, perform, advance, begin, end, report, drop, settle, close}
-use Rattle.semantics.specs.Lists.{keep}
 use Rattle.honest.specs.Machine.{put}
 use Rattle.honest.specs.Record.{own_steps}
 use Rattle.honest.proofs.Holds.{put_at, put_other}
 use Rattle.honest.proofs.Ends.{EpochStart, new_start, ended_epoch, ended_epochs, start_at, except_at, ends_in}
-use Rattle.honest.proofs.Lists.{by_test, keep_append}
+use Rattle.honest.proofs.Lists.{by_test}
 use Rattle.honest.proofs.SameElements.{Pick, here, there, Same, none, more}
 
 abbrev of_thread : ℕ → List Ended → List Ended
-of_thread t es = keep (λ e. eqb e.thread t) es
+of_thread t es = filter (λ e. eqb e.thread t) es
 
 -- The epochs of one thread that end in its own calls.
 abbrev rows : ℕ → List EpochStart → List Call → List Ended
@@ -53,7 +54,7 @@ own_rows t o (begin u k p v τ ∷ cs) =
 own_rows t o (end u p v τ ∷ cs) =
     let o' : ℕ → List EpochStart = put o u (except_at (o u) p) in
     let r = own_rows t o' cs in
-    let a = keep_append (λ e. eqb e.thread t) (ended_epochs u (start_at (o u) p) v τ) (ends_in o' cs) in
+    let a = filter-append (λ e. eqb e.thread t) (ended_epochs u (start_at (o u) p) v τ) (ends_in o' cs) in
     by_test (λ b. of_thread t (ended_epochs u (start_at (o u) p) v τ ++ ends_in o' cs) ≡ rows t (o t) (cond b (end u p v τ ∷ own_steps t cs) (own_steps t cs))) (eqb u t)
     (λ b. let e = eqb-true u t b in
     a ∙ ap (λ z. z ++ of_thread t (ends_in o' cs)) (own_ended t u (start_at (o u) p) v τ e ∙ ap (λ z. ended_epochs t (start_at (o z) p) v τ) e)

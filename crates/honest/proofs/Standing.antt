@@ -3,12 +3,12 @@ use Rattle.std.proofs.Common.{◌≡◌, ℕ, ◌+◌, ◌<◌, ◌≤◌, Bool,
 use Rattle.std.proofs.lemmas.Bool.{eqb-true, eqb-false, eq-eqb, ne_eqb, cases_eq}
 use Rattle.std.proofs.lemmas.Bool.Decides.{nat_tests}
 use Rattle.std.proofs.lemmas.List.{append-nil}
+use Rattle.std.specs.List.{find, filter}
 use Rattle.semantics.specs.Calls.{Call, preset, commit, perform, advance, begin, end, report, drop, settle, close}
-use Rattle.semantics.specs.Lists.{find, keep}
 use Rattle.honest.specs.Limits.{Notice, ThreadUse, Use, no_use, committing, performing, advancing, beginning, ending, after, opened_from}
 use Rattle.honest.specs.Machine.{Every, put}
 use Rattle.honest.specs.Record.{moment, count, is_end, is_report, clock, clock_at, clock_from, next_time, NotAfter, Stands, InPlace}
-use Rattle.honest.proofs.Lists.{by_test, none≢some, every_to, every_append, every_keep}
+use Rattle.honest.proofs.Lists.{by_test, none≢some, every_to, every_append, every_filter}
 
 -- The time of the next step of a thread that has one: an advance is no step.
 abbrev pub step_time : ℕ → List Call → Option ℕ
@@ -130,14 +130,14 @@ counted_end done a n t p v τ h =
     go k l z (inr m) = let y : Notice = record { number = a.ended; from = opened_from p (a.threads t) } in
         let x = h.there k (omega arith) z in (x.0, find_past_push a.owed y k x.0 x.1)
 
-find_not : (xs : List Notice) (j k : ℕ) → (k ≡ j → ⊥) → find (λ e. eqb e.number k) (keep (λ e. not (eqb e.number j)) xs) ≡ find (λ e. eqb e.number k) xs
+find_not : (xs : List Notice) (j k : ℕ) → (k ≡ j → ⊥) → find (λ e. eqb e.number k) (filter (λ e. not (eqb e.number j)) xs) ≡ find (λ e. eqb e.number k) xs
 find_not [] j k n = refl
 find_not (x ∷ xs) j k n = let r = find_not xs j k n in grind (arith, nat_tests)
 
-only_not : (xs : List Notice) (j : ℕ) → Every (λ e. e.number ≡ j → ⊥) (keep (λ e. not (eqb e.number j)) xs)
+only_not : (xs : List Notice) (j : ℕ) → Every (λ e. e.number ≡ j → ⊥) (filter (λ e. not (eqb e.number j)) xs)
 only_not [] j = tt
 only_not (x ∷ xs) j = let r = only_not xs j in
-    by_test (λ b. eqb x.number j ≡ b → Every (λ e. e.number ≡ j → ⊥) (cond (not b) (x ∷ keep (λ e. not (eqb e.number j)) xs) (keep (λ e. not (eqb e.number j)) xs))) (eqb x.number j)
+    by_test (λ b. eqb x.number j ≡ b → Every (λ e. e.number ≡ j → ⊥) (cond (not b) (x ∷ filter (λ e. not (eqb e.number j)) xs) (filter (λ e. not (eqb e.number j)) xs))) (eqb x.number j)
     (λ _ _. r) (λ _ b. (eqb-false x.number j b, r)) refl
 
 every_both : {A : Type 0} (P Q : A → Type 0) (xs : List A) → Every P xs → Every Q xs → Every (λ x. P x × Q x) xs
@@ -156,14 +156,14 @@ counted_report done a n j l h =
       clocks = λ u. ap (λ x. clock_at u (moment c) x) (h.clocks u) ∙ sym (clock_push u 0 done c);
       ended = h.ended ∙ sym (count_push is_end done c);
       there = λ k m z. go k m z (cases_eq k j) here (rs k);
-      only = every_to (λ x p. (p.0.0, rs x.number p.1 ∙ p.0.1)) (keep (λ e. not (eqb e.number j)) a.owed)
-          (every_both (λ x. (x.number < a.ended) × (count (is_report x.number) done ≡ 0)) (λ x. x.number ≡ j → ⊥) (keep (λ e. not (eqb e.number j)) a.owed)
-          (every_keep (λ x. (x.number < a.ended) × (count (is_report x.number) done ≡ 0)) (λ e. not (eqb e.number j)) a.owed h.only) (only_not a.owed j));
+      only = every_to (λ x p. (p.0.0, rs x.number p.1 ∙ p.0.1)) (filter (λ e. not (eqb e.number j)) a.owed)
+          (every_both (λ x. (x.number < a.ended) × (count (is_report x.number) done ≡ 0)) (λ x. x.number ≡ j → ⊥) (filter (λ e. not (eqb e.number j)) a.owed)
+          (every_filter (λ x. (x.number < a.ended) × (count (is_report x.number) done ≡ 0)) (λ e. not (eqb e.number j)) a.owed h.only) (only_not a.owed j));
       fresh = λ k m. rs k (omega arith) ∙ h.fresh k m;
     }
   where
     go : (k : ℕ) → k < a.ended → count (is_report k) (done ++ (report j ∷ [])) ≡ 0 → (k ≡ j) ⊎ (k ≡ j → ⊥) → count (is_report j) (done ++ (report j ∷ [])) ≡ count (is_report j) done + 1 →
-        ((k ≡ j → ⊥) → count (is_report k) (done ++ (report j ∷ [])) ≡ count (is_report k) done) → (e : Notice) × (find (λ e. eqb e.number k) (keep (λ e. not (eqb e.number j)) a.owed) ≡ Some e)
+        ((k ≡ j → ⊥) → count (is_report k) (done ++ (report j ∷ [])) ≡ count (is_report k) done) → (e : Notice) × (find (λ e. eqb e.number k) (filter (λ e. not (eqb e.number j)) a.owed) ≡ Some e)
     go k m z (inl e) here rs = let w : count (is_report j) done + 1 ≡ 0 = sym here ∙ ap (λ i. count (is_report i) (done ++ (report j ∷ []))) (sym e) ∙ z in absurd (omega arith)
     go k m z (inr e) here rs = let x = h.there k m (sym (rs e) ∙ z) in (x.0, find_not a.owed j k e ∙ x.1)
 

@@ -1,6 +1,7 @@
 -- A record whose every call is taken is within the limits. Assumes nothing.
 use Rattle.std.proofs.Common.{◌≡◌, ℕ, ◌≤◌, List, [], ◌∷◌, ◌++◌, length, replicate, sym, refl, ap, ◌∙◌, subst, arith}
 use Rattle.std.proofs.lemmas.Bool.{leb-false}
+use Rattle.std.proofs.lemmas.List.{length-map}
 use Rattle.semantics.specs.declared.row.Home.{Home}
 use Rattle.semantics.specs.Calls.{Call, preset, commit, perform, advance, begin, end, report, drop, settle, close, Answer, taken}
 use Rattle.semantics.specs.Laws.{Precedes, by_rule}
@@ -13,7 +14,6 @@ use Rattle.honest.specs.Machine.{put}
 use Rattle.honest.specs.Record.{Opening, nothing, presets, settles, preset_memory}
 use Rattle.honest.proofs.HonestIsClean.{with_homes, Fresh, fresh_start, preset_at, fresh_put, preset_step, invariant_start}
 use Rattle.honest.proofs.Invariant.{Invariant, taken_off}
-use Rattle.honest.proofs.Lists.{map_length}
 use Rattle.honest.proofs.SafeTime.{open_epoch, notice}
 use Rattle.honest.proofs.SameElements.{same_length}
 use Rattle.honest.proofs.Standing.{AllPlaced, placed_body}
@@ -32,17 +32,17 @@ had_room B n s a (advance t τ) cs k i e = tt
 had_room B n s a (begin t j p v τ) cs k i e =
     let off = taken_off B s (begin t j p v τ) k i.going refl e in
     let x = leb-false most_open (length (thread_of s t).epochs) off.1.1.1.1.1.0 in let y = leb-false most_begins s.begins off.1.1.1.1.1.1.0 in
-    let u : length (a.threads t).opened ≡ length (thread_of s t).epochs = ap (λ z. length z.opened) (i.threads.used t) ∙ map_length open_epoch (thread_of s t).epochs in let v = i.begun in
+    let u : length (a.threads t).opened ≡ length (thread_of s t).epochs = ap (λ z. length z.opened) (i.threads.used t) ∙ length-map (thread_of s t).epochs open_epoch in let v = i.begun in
     (omega arith, omega arith)
 had_room B n s a (end t p v τ) cs k i e =
     let off = taken_off B s (end t p v τ) k i.going refl e in
     let x = leb-false most_owed (length s.owed) off.1.1.1.1.0 in
-    let u : length a.owed ≡ length s.owed = ap length i.owed ∙ map_length notice s.owed in
+    let u : length a.owed ≡ length s.owed = ap length i.owed ∙ length-map s.owed notice in
     omega arith
 had_room B n s a (report j) cs k i e =
     let off = taken_off B s (report j) k i.going refl e in
     let x = leb-false most_waiting (length s.waiting) off.1.0 in
-    let u : length a.waiting ≡ length s.waiting = same_length i.waiting ∙ map_length (λ e. e.from) s.waiting in
+    let u : length a.waiting ≡ length s.waiting = same_length i.waiting ∙ length-map s.waiting (λ e. e.from) in
     omega arith
 had_room B n s a (drop j) cs k i e = tt
 had_room B n s a settle cs k i e = tt

@@ -1,8 +1,8 @@
 -- What it means that a list of calls keeps within the limits of a watch. It is said on the calls, not on their answers. Assumes nothing.
-use Rattle.std.specs.Prelude.{ℕ, zero, suc, ◌+◌, ◌-◌, ◌<◌, Bool, true, not, ◌&&◌, List, [], ◌∷◌, ◌++◌, length, Some, None, Option, ◌==◌, nat_eq, nat_lt}
+use Rattle.std.specs.Prelude.{ℕ, zero, suc, ◌+◌, ◌-◌, ◌<◌, Bool, true, not, ◌&&◌, List, [], ◌∷◌, ◌++◌, length, Some, None, Option, ◌==◌, nat_eq, nat_lt, map}
+use Rattle.std.specs.List.{find, filter}
 use Rattle.semantics.specs.Calls.{Call, preset, commit, perform, advance, begin, end, report, drop, settle, close}
 use Rattle.semantics.specs.Limits.{most_outstanding, most_commits, most_open, most_begins, most_owed, most_waiting}
-use Rattle.semantics.specs.Lists.{find, keep, map}
 use Rattle.honest.specs.Machine.{put}
 
 -- An epoch that is open at a place, and a notice that is owed, each with the epoch's begin.
@@ -46,7 +46,7 @@ abbrev pub beginning : ℕ → ℕ → ThreadUse → ThreadUse
 beginning p τ w = record { clock = τ; committed = w.committed; outstanding = w.outstanding; opened = w.opened ++ (record { place = p; from = τ } ∷ []) }
 
 abbrev pub ending : ℕ → ℕ → ThreadUse → ThreadUse
-ending p τ w = record { clock = τ; committed = w.committed; outstanding = w.outstanding; opened = keep (λ e. not (e.place == p)) w.opened }
+ending p τ w = record { clock = τ; committed = w.committed; outstanding = w.outstanding; opened = filter (λ e. not (e.place == p)) w.opened }
 
 abbrev pub put_thread : Use → ℕ → ThreadUse → Use
 put_thread a t w = record { threads = put a.threads t w; begun = a.begun; ended = a.ended; owed = a.owed; waiting = a.waiting }
@@ -94,9 +94,9 @@ after n a (end t p v τ) = record {
   owed = a.owed ++ (record { number = a.ended; from = opened_from p (a.threads t) } ∷ []);
   waiting = a.waiting;
 }
-after n a (report k) = record { threads = a.threads; begun = a.begun; ended = a.ended; owed = keep (λ e. not (e.number == k)) a.owed; waiting = owed_from k a ∷ a.waiting }
+after n a (report k) = record { threads = a.threads; begun = a.begun; ended = a.ended; owed = filter (λ e. not (e.number == k)) a.owed; waiting = owed_from k a ∷ a.waiting }
 after n a (drop k) = a
-after n a settle = record { threads = a.threads; begun = a.begun; ended = a.ended; owed = a.owed; waiting = keep (λ x. not (before_safe n a x)) a.waiting }
+after n a settle = record { threads = a.threads; begun = a.begun; ended = a.ended; owed = a.owed; waiting = filter (λ x. not (before_safe n a x)) a.waiting }
 after n a close = a
 
 -- There is room for a call.

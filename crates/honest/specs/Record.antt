@@ -1,9 +1,9 @@
 -- What it means that a list of calls records a run of the memory machine. Assumes nothing.
 use Rattle.std.specs.Prelude.{◌≡◌, ℕ, ◌+◌, ◌<◌, ◌≤◌, Bool, true, false, cond, List, [], ◌∷◌, ◌++◌, Some, None, Option, ◌==◌}
+use Rattle.std.specs.List.{filter}
 use Rattle.semantics.specs.Calls.{Call, preset, commit, perform, advance, begin, end, report, drop, settle, close}
 use Rattle.semantics.specs.Laws.{Precedes}
 use Rattle.semantics.specs.Limits.{last_place}
-use Rattle.semantics.specs.Lists.{keep}
 use Rattle.semantics.specs.Trace.{preset_by}
 use Rattle.honest.specs.Machine.{Machine, Run, starting, AtRest}
 
@@ -78,7 +78,7 @@ abbrev pub own_step : ℕ → Call → Bool
 own_step t c = is t (stepping c)
 
 abbrev pub own_steps : ℕ → List Call → List Call
-own_steps t cs = keep (own_step t) cs
+own_steps t cs = filter (own_step t) cs
 
 abbrev pub is_report : ℕ → Call → Bool
 is_report k c = is k (reporting c)

@@ -3,43 +3,31 @@ ghost use Rattle.ordering.specs.Laws.{NumbersNameClasses, ClassesHaveNumbers};
 ghost use Rattle.ordering.specs.Laws.{NamedRulesNest, EmptyTableOrdersAll, TablesWriteSets, TablesWriteNamedRules};
 
 // A number below 18 is the number of its class.
-pub fn numbers_name_classes() -> u8
+pub fn numbers_name_classes()
     ensures { NumbersNameClasses }
-{
-    0
-}
+{}
 
 // A class is the class of its number, which is below 18.
-pub fn classes_have_numbers() -> u8
+pub fn classes_have_numbers()
     ensures { ClassesHaveNumbers }
-{
-    0
-}
+{}
 
 // Each named rule orders what the next one orders.
-pub fn named_rules_nest() -> u8
+pub fn named_rules_nest()
     ensures { NamedRulesNest }
-{
-    0
-}
+{}
 
 // The table without a byte orders every pair.
-pub fn empty_table_orders_all() -> u8
+pub fn empty_table_orders_all()
     ensures { EmptyTableOrdersAll }
-{
-    0
-}
+{}
 
 // The table of any set orders just the pairs of the set.
-pub fn tables_write_sets() -> u8
+pub fn tables_write_sets()
     ensures { TablesWriteSets }
-{
-    0
-}
+{}
 
 // The table that writes out a named rule's set is that rule.
-pub fn tables_write_named_rules() -> u8
+pub fn tables_write_named_rules()
     ensures { TablesWriteNamedRules }
-{
-    0
-}
+{}

@@ -2,7 +2,8 @@
 use Rattle.std.proofs.Common.{◌≡◌, ℕ, ◌+◌, ◌-◌, ◌<◌, ◌≤◌, Bool, true, false, cond, not, List, [], ◌∷◌, length, get_or, take, Some, None, Option, sym, refl, ap, ◌∙◌, subst, arith}
 use Rattle.std.proofs.lemmas.Bool.{true≢false}
 use Rattle.std.proofs.lemmas.List.{get_or-take, length-take}
-use Rattle.semantics.specs.Lists.{find, keep, last_of}
+use Rattle.std.specs.List.{find, filter}
+use Rattle.semantics.specs.Lists.{last_of}
 use Rattle.rows.specs.Found.{Found, FoundLast}
 
 -- `&xs[0..n]` as the checker reads it
@@ -17,7 +18,7 @@ found_row p n i xs d h =
     let f : Found p (take n xs) i = whole (λ ys. Found p ys i) n xs h in
     f.here d ∙ ap Some (get_or-take n xs i d (below_count n i xs f.within).0)
 
-pub last_row : {A : Type 0} (p : A → Bool) (n i : ℕ) (xs : List A) (d : A) → FoundLast p (take (n - 0) xs) i → last_of (keep p (take n xs)) ≡ Some (get_or xs i d)
+pub last_row : {A : Type 0} (p : A → Bool) (n i : ℕ) (xs : List A) (d : A) → FoundLast p (take (n - 0) xs) i → last_of (filter p (take n xs)) ≡ Some (get_or xs i d)
 last_row p n i xs d h =
     let f : FoundLast p (take n xs) i = whole (λ ys. FoundLast p ys i) n xs h in
     f.here d ∙ ap Some (get_or-take n xs i d (below_count n i xs f.within).0)
@@ -25,21 +26,21 @@ last_row p n i xs d h =
 pub row_read : {A : Type 0} (p : A → Bool) (n i : ℕ) (xs : List A) (d : A) → Found p (take n xs) i → get_or (take n xs) i d ≡ get_or xs i d
 row_read p n i xs d f = get_or-take n xs i d (below_count n i xs f.within).0
 
-keep_le : {A : Type 0} (q : A → Bool) (xs : List A) → length (keep q xs) ≤ length xs
-keep_le q [] = omega arith
-keep_le q (x ∷ xs) = by (q x) (keep_le q xs)
+filter_le : {A : Type 0} (q : A → Bool) (xs : List A) → length (filter q xs) ≤ length xs
+filter_le q [] = omega arith
+filter_le q (x ∷ xs) = by (q x) (filter_le q xs)
   where
-    by : (b : Bool) → length (keep q xs) ≤ length xs → length (cond b (x ∷ keep q xs) (keep q xs)) ≤ length (x ∷ xs)
+    by : (b : Bool) → length (filter q xs) ≤ length xs → length (cond b (x ∷ filter q xs) (filter q xs)) ≤ length (x ∷ xs)
     by true ih = omega arith
     by false ih = omega arith
 
 -- what was found is taken out
-pub keep_shorter : {A : Type 0} (p : A → Bool) (xs : List A) (x : A) → find p xs ≡ Some x → length (keep (λ y. not (p y)) xs) + 1 ≤ length xs
-keep_shorter {A} p [] x e = absurd (true≢false (sym (ap (λ (z : Option A). elim z [ None ↦ false | Some y ↦ true ]) e)))
-keep_shorter p (y ∷ ys) x e = by (p y) e (keep_shorter p ys x)
+pub filter_shorter : {A : Type 0} (p : A → Bool) (xs : List A) (x : A) → find p xs ≡ Some x → length (filter (λ y. not (p y)) xs) + 1 ≤ length xs
+filter_shorter {A} p [] x e = absurd (true≢false (sym (ap (λ (z : Option A). elim z [ None ↦ false | Some y ↦ true ]) e)))
+filter_shorter p (y ∷ ys) x e = by (p y) e (filter_shorter p ys x)
   where
-    by : (b : Bool) → cond b (Some y) (find p ys) ≡ Some x → (find p ys ≡ Some x → length (keep (λ y. not (p y)) ys) + 1 ≤ length ys) → length (cond (not b) (y ∷ keep (λ y. not (p y)) ys) (keep (λ y. not (p y)) ys)) + 1 ≤ length (y ∷ ys)
-    by true e ih = let k = keep_le (λ y. not (p y)) ys in omega arith
+    by : (b : Bool) → cond b (Some y) (find p ys) ≡ Some x → (find p ys ≡ Some x → length (filter (λ y. not (p y)) ys) + 1 ≤ length ys) → length (cond (not b) (y ∷ filter (λ y. not (p y)) ys) (filter (λ y. not (p y)) ys)) + 1 ≤ length (y ∷ ys)
+    by true e ih = let k = filter_le (λ y. not (p y)) ys in omega arith
     by false e ih = let k = ih e in omega arith
 
 -- the first that passes does pass
@@ -52,10 +53,10 @@ found_passes p (y ∷ ys) x e = by (p y) refl e (found_passes p ys x)
     by false h e ih = ih e
 
 -- fewer rows are left
-pub shorter : {A : Type 0} (p : A → Bool) (n m : ℕ) (xs ys : List A) (x : A) → n ≤ length xs → m ≤ length ys → find p (take n xs) ≡ Some x → take m ys ≡ keep (λ y. not (p y)) (take n xs) → m + 1 ≤ n
+pub shorter : {A : Type 0} (p : A → Bool) (n m : ℕ) (xs ys : List A) (x : A) → n ≤ length xs → m ≤ length ys → find p (take n xs) ≡ Some x → take m ys ≡ filter (λ y. not (p y)) (take n xs) → m + 1 ≤ n
 shorter p n m xs ys x l k f e =
     let a = length-take n xs in
     let b = length-take m ys in
     let c = ap length e in
-    let d = keep_shorter p (take n xs) x f in
+    let d = filter_shorter p (take n xs) x f in
     omega arith

@@ -1,7 +1,8 @@
 -- How lookups go on. Assumes nothing.
 use Rattle.std.proofs.Common.{◌≡◌, ℕ, suc, ◌+◌, ◌<◌, ◌≤◌, Bool, true, false, cond, List, [], ◌∷◌, ◌++◌, length, get_or, take, drop, set, Some, None, filter, sym, refl, ap, ◌∙◌, arith}
 use Rattle.std.proofs.lemmas.List.{drop_more, drop_all, take_more, take_all, append-nil}
-use Rattle.semantics.specs.Lists.{find, keep, change, last_of}
+use Rattle.std.specs.List.{find, filter}
+use Rattle.semantics.specs.Lists.{change, last_of}
 use Rattle.rows.specs.Found.{Found, FoundLast}
 
 -- nothing before i passes
@@ -51,12 +52,12 @@ past_found p xs i x l e h q =
 pub past_all : {A : Type 0} (p : A → Bool) (xs : List A) (i : ℕ) → length xs ≤ i → Past p xs i → find p xs ≡ None
 past_all p xs i l q = sym q.finds ∙ ap (find p) (drop_all i xs l)
 
-keep_push : {A : Type 0} (p : A → Bool) (xs : List A) (x : A) → keep p (xs ++ (x ∷ [])) ≡ keep p xs ++ keep p (x ∷ [])
-keep_push p [] x = refl
-keep_push p (y ∷ ys) x = by (p y) (keep_push p ys x)
+filter_push : {A : Type 0} (p : A → Bool) (xs : List A) (x : A) → filter p (xs ++ (x ∷ [])) ≡ filter p xs ++ filter p (x ∷ [])
+filter_push p [] x = refl
+filter_push p (y ∷ ys) x = by (p y) (filter_push p ys x)
   where
-    by : (b : Bool) → keep p (ys ++ (x ∷ [])) ≡ keep p ys ++ keep p (x ∷ [])
-        → cond b (y ∷ keep p (ys ++ (x ∷ []))) (keep p (ys ++ (x ∷ []))) ≡ cond b (y ∷ keep p ys) (keep p ys) ++ keep p (x ∷ [])
+    by : (b : Bool) → filter p (ys ++ (x ∷ [])) ≡ filter p ys ++ filter p (x ∷ [])
+        → cond b (y ∷ filter p (ys ++ (x ∷ []))) (filter p (ys ++ (x ∷ []))) ≡ cond b (y ∷ filter p ys) (filter p ys) ++ filter p (x ∷ [])
     by true ih = ap (λ zs. y ∷ zs) ih
     by false ih = ih
 
@@ -65,38 +66,38 @@ last_push [] x = refl
 last_push (y ∷ ys) x = ap (λ o. elim o [ None ↦ Some y | Some z ↦ Some z ]) (last_push ys x)
 
 -- nothing from i on passes
-pub last_before : {A : Type 0} (p : A → Bool) (xs : List A) (i : ℕ) (x : A) → i < length xs → x ≡ get_or xs i x → p x ≡ false → keep p (take (i + 1) xs) ≡ keep p xs → keep p (take i xs) ≡ keep p xs
+pub last_before : {A : Type 0} (p : A → Bool) (xs : List A) (i : ℕ) (x : A) → i < length xs → x ≡ get_or xs i x → p x ≡ false → filter p (take (i + 1) xs) ≡ filter p xs → filter p (take i xs) ≡ filter p xs
 last_before p xs i x l e h q =
     let t : take (i + 1) xs ≡ take i xs ++ (x ∷ []) = take_more xs i x l ∙ ap (λ y. take i xs ++ (y ∷ [])) (sym e) in
-    let n : keep p (x ∷ []) ≡ [] = ap (λ b. cond b (x ∷ []) []) h in
-    sym (ap (keep p) t ∙ keep_push p (take i xs) x ∙ ap (λ ys. keep p (take i xs) ++ ys) n ∙ append-nil (keep p (take i xs))) ∙ q
+    let n : filter p (x ∷ []) ≡ [] = ap (λ b. cond b (x ∷ []) []) h in
+    sym (ap (filter p) t ∙ filter_push p (take i xs) x ∙ ap (λ ys. filter p (take i xs) ++ ys) n ∙ append-nil (filter p (take i xs))) ∙ q
 
-pub last_found : {A : Type 0} (p : A → Bool) (xs : List A) (i : ℕ) (x : A) → i < length xs → x ≡ get_or xs i x → p x ≡ true → keep p (take (i + 1) xs) ≡ keep p xs → FoundLast p xs i
+pub last_found : {A : Type 0} (p : A → Bool) (xs : List A) (i : ℕ) (x : A) → i < length xs → x ≡ get_or xs i x → p x ≡ true → filter p (take (i + 1) xs) ≡ filter p xs → FoundLast p xs i
 last_found p xs i x l e h q =
     let t : take (i + 1) xs ≡ take i xs ++ (x ∷ []) = take_more xs i x l ∙ ap (λ y. take i xs ++ (y ∷ [])) (sym e) in
-    let n : keep p (x ∷ []) ≡ x ∷ [] = ap (λ b. cond b (x ∷ []) []) h in
-    let k : keep p xs ≡ keep p (take i xs) ++ (x ∷ []) = sym q ∙ ap (keep p) t ∙ keep_push p (take i xs) x ∙ ap (λ ys. keep p (take i xs) ++ ys) n in
-    record { within = l; here = λ d. ap last_of k ∙ last_push (keep p (take i xs)) x ∙ ap Some (Rattle.std.proofs.lemmas.List.get_or_read xs i x l e d) }
+    let n : filter p (x ∷ []) ≡ x ∷ [] = ap (λ b. cond b (x ∷ []) []) h in
+    let k : filter p xs ≡ filter p (take i xs) ++ (x ∷ []) = sym q ∙ ap (filter p) t ∙ filter_push p (take i xs) x ∙ ap (λ ys. filter p (take i xs) ++ ys) n in
+    record { within = l; here = λ d. ap last_of k ∙ last_push (filter p (take i xs)) x ∙ ap Some (Rattle.std.proofs.lemmas.List.get_or_read xs i x l e d) }
 
-pub keep_kept : {A : Type 0} (p : A → Bool) (xs : List A) → filter p xs ≡ keep p xs
-keep_kept p [] = refl
-keep_kept p (x ∷ xs) = ap (λ ys. cond (p x) (x ∷ ys) ys) (keep_kept p xs)
+pub filter_kept : {A : Type 0} (p : A → Bool) (xs : List A) → filter p xs ≡ filter p xs
+filter_kept p [] = refl
+filter_kept p (x ∷ xs) = ap (λ ys. cond (p x) (x ∷ ys) ys) (filter_kept p xs)
 
 -- two tests in turn
-pub keep_keep : {A : Type 0} (p q : A → Bool) (xs : List A) → keep q (keep p xs) ≡ keep (λ x. cond (p x) (q x) false) xs
-keep_keep p q [] = refl
-keep_keep p q (x ∷ xs) = by (p x) (keep_keep p q xs)
+pub filter_filter : {A : Type 0} (p q : A → Bool) (xs : List A) → filter q (filter p xs) ≡ filter (λ x. cond (p x) (q x) false) xs
+filter_filter p q [] = refl
+filter_filter p q (x ∷ xs) = by (p x) (filter_filter p q xs)
   where
-    by : (b : Bool) → keep q (keep p xs) ≡ keep (λ x. cond (p x) (q x) false) xs
-        → keep q (cond b (x ∷ keep p xs) (keep p xs)) ≡ cond (cond b (q x) false) (x ∷ keep (λ x. cond (p x) (q x) false) xs) (keep (λ x. cond (p x) (q x) false) xs)
+    by : (b : Bool) → filter q (filter p xs) ≡ filter (λ x. cond (p x) (q x) false) xs
+        → filter q (cond b (x ∷ filter p xs) (filter p xs)) ≡ cond (cond b (q x) false) (x ∷ filter (λ x. cond (p x) (q x) false) xs) (filter (λ x. cond (p x) (q x) false) xs)
     by true ih = ap (λ ys. cond (q x) (x ∷ ys) ys) ih
     by false ih = ih
 
-pub find_keep : {A : Type 0} (p q : A → Bool) (xs : List A) → find q (keep p xs) ≡ find (λ x. cond (p x) (q x) false) xs
-find_keep p q [] = refl
-find_keep p q (x ∷ xs) = by (p x) (find_keep p q xs)
+pub find_filter : {A : Type 0} (p q : A → Bool) (xs : List A) → find q (filter p xs) ≡ find (λ x. cond (p x) (q x) false) xs
+find_filter p q [] = refl
+find_filter p q (x ∷ xs) = by (p x) (find_filter p q xs)
   where
-    by : (b : Bool) → find q (keep p xs) ≡ find (λ x. cond (p x) (q x) false) xs
-        → find q (cond b (x ∷ keep p xs) (keep p xs)) ≡ cond (cond b (q x) false) (Some x) (find (λ x. cond (p x) (q x) false) xs)
+    by : (b : Bool) → find q (filter p xs) ≡ find (λ x. cond (p x) (q x) false) xs
+        → find q (cond b (x ∷ filter p xs) (filter p xs)) ≡ cond (cond b (q x) false) (Some x) (find (λ x. cond (p x) (q x) false) xs)
     by true ih = ap (λ o. cond (q x) (Some x) o) ih
     by false ih = ih

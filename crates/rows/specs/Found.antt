@@ -1,6 +1,7 @@
 -- What a lookup in a list finds. Assumes nothing.
 use Rattle.std.specs.Prelude.{◌≡◌, ℕ, ◌<◌, Bool, List, length, Some, slice_index_or, slice_set}
-use Rattle.semantics.specs.Lists.{find, keep, change, last_of}
+use Rattle.std.specs.List.{find, filter}
+use Rattle.semantics.specs.Lists.{change, last_of}
 
 -- the first that passes stands at i
 pub record Found {A : Type 0} (p : A → Bool) (xs : List A) (i : ℕ) : Type 0 where
@@ -11,4 +12,4 @@ pub record Found {A : Type 0} (p : A → Bool) (xs : List A) (i : ℕ) : Type 0 
 -- the last that passes stands at i
 pub record FoundLast {A : Type 0} (p : A → Bool) (xs : List A) (i : ℕ) : Type 0 where
   pub within : i < length xs
-  pub here : (d : A) → last_of (keep p xs) ≡ Some (slice_index_or xs i d)
+  pub here : (d : A) → last_of (filter p xs) ≡ Some (slice_index_or xs i d)

@@ -2,7 +2,8 @@
 #![tactic(auto)]
 
 ghost use Rattle.std.specs.Prelude.{◌≡◌, ◌+◌, ◌<◌, ◌≤◌, Bool, not, [], ◌∷◌, ◌++◌, length, take, Some, None, MatchOption};
-ghost use Rattle.semantics.specs.Lists.{find, keep, last_of};
+ghost use Rattle.std.specs.List.{find, filter};
+ghost use Rattle.semantics.specs.Lists.{last_of};
 ghost use Rattle.rows.specs.Found.{Found, FoundLast};
 
 // A test of rows.
@@ -27,7 +28,7 @@ pub fn first<T, P: Test<T>>(rows: &[T], test: &P) -> Option<usize>
 
 // The last row that passes.
 pub fn last<T, P: Test<T>>(rows: &[T], test: &P) -> Option<usize>
-    ensures { MatchOption result (last_of (keep (P.holds test.now) rows.now) ≡ None) (λ i. FoundLast (P.holds test.now) rows.now i) }
+    ensures { MatchOption result (last_of (filter (P.holds test.now) rows.now) ≡ None) (λ i. FoundLast (P.holds test.now) rows.now i) }
 {
     let mut at = rows.len();
     while 0 < at {
@@ -43,7 +44,7 @@ pub fn last<T, P: Test<T>>(rows: &[T], test: &P) -> Option<usize>
 pub fn remove<T: Copy, P: Test<T>>(rows: &mut [T], count: usize, test: &P) -> usize
     requires { count ≤ length rows.old }
     ensures bound { result ≤ count }
-    ensures rest { take result rows.new ≡ keep (λ x. not (P.holds test.now x)) (take count rows.old) }
+    ensures rest { take result rows.new ≡ filter (λ x. not (P.holds test.now x)) (take count rows.old) }
 {
     let mut n = 0;
     for i in 0..count {

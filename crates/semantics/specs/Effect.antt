@@ -1,5 +1,7 @@
 -- What a call that is not refused does, and what it answers. Assumes nothing.
 use Rattle.std.specs.Prelude.{ℕ, ◌+◌, Bool, true, cond, not, ◌&&◌, ◌||◌, List, [], ◌∷◌, ◌++◌, Some, None, Option, ◌==◌, nat_eq, nat_lt}
+use Rattle.std.specs.List.{filter}
+use Rattle.std.specs.Option.{is_some}
 use Rattle.semantics.specs.declared.row.Operation.{Operation}
 use Rattle.semantics.specs.declared.row.Epoch.{Epoch}
 use Rattle.semantics.specs.declared.row.Ended.{Ended}
@@ -12,7 +14,7 @@ use Rattle.semantics.specs.Calls
 use Rattle.semantics.specs.Classes.{reads, writes, operation, puts}
 use Rattle.semantics.specs.Judging.{insert, Judging, judge, safe}
 use Rattle.semantics.specs.Laws.{Precedes, forwarded, perform_laws, end_laws}
-use Rattle.semantics.specs.Lists.{is_some, keep, change}
+use Rattle.semantics.specs.Lists.{change}
 use Rattle.semantics.specs.Puts.{put_clock, put_pending, put_epochs, committed, put_value, marked, put_thread, put_home, put_queues, put_counts, put_verdict, convict, without}
 use Rattle.semantics.specs.State.{Thread, State, thread_of, home_of, outstanding_as, epoch_at, owed_as}
 
@@ -47,7 +49,7 @@ abbrev pub touched : Thread → Operation → ℕ → List Epoch
 touched w o τ = cond (uses_copy w o) (change (λ e. nat_eq e.place o.place) (touch τ o) w.epochs) w.epochs
 
 abbrev pub performed : Thread → Operation → ℕ → Thread
-performed w o τ = put_clock (put_epochs (put_pending w (keep (λ x. not (x.number == o.number)) w.pending)) (touched w o τ)) τ
+performed w o τ = put_clock (put_epochs (put_pending w (filter (λ x. not (x.number == o.number)) w.pending)) (touched w o τ)) τ
 
 -- The operation breaks a law or not; it was found or not (a call that is not refused always finds it).
 abbrev pub performing : State → ℕ → ℕ → Operation → Option Conviction → Outcome
@@ -73,7 +75,7 @@ ended_row n t e v τ = record { from = e.from; number = n; thread = t; writes = 
 
 abbrev pub ended : State → ℕ → Epoch → ℕ → ℕ → State
 ended s t e v τ =
-    let w : Thread = put_clock (put_epochs (thread_of s t) (keep (λ x. not (x.place == e.place)) (thread_of s t).epochs)) τ in
+    let w : Thread = put_clock (put_epochs (thread_of s t) (filter (λ x. not (x.place == e.place)) (thread_of s t).epochs)) τ in
     put_counts (put_queues (put_thread s t w) (s.owed ++ (ended_row s.ends t e v τ ∷ [])) s.waiting) s.begins (s.ends + 1) s.judged s.dropped
 
 abbrev pub ending : State → ℕ → Epoch → ℕ → ℕ → Option Conviction → Outcome

@@ -1,12 +1,13 @@
 -- How the home judges ended epochs. Neither rules nor operations are spoken of here. Assumes nothing.
-use Rattle.std.specs.Prelude.{ℕ, ◌+◌, max, Bool, true, false, cond, leb, List, [], ◌∷◌, ◌++◌, Some, None, Option, ◌==◌, nat_le, nat_lt}
+use Rattle.std.specs.Prelude.{ℕ, ◌+◌, max, Bool, true, false, cond, leb, List, [], ◌∷◌, ◌++◌, Some, None, Option, ◌==◌, nat_le, nat_lt, map}
+use Rattle.std.specs.List.{flat_map}
 use Rattle.queue.specs.Fields.{in_turn, flag_le}
 use Rattle.queue.specs.Order
 use Rattle.semantics.specs.declared.row.Ended.{Ended}
 use Rattle.semantics.specs.declared.row.Home.{Home}
 use Rattle.semantics.specs.declared.verdict.Conviction.{Conviction}
 use Rattle.semantics.specs.declared.verdict.Law.TheVariants.{Overlap, WrongBeginValue}
-use Rattle.semantics.specs.Lists.{first_some, least_of, map, flat}
+use Rattle.semantics.specs.Lists.{first_some, least_of}
 use Rattle.semantics.specs.Puts.{put_value, put_ends, put_home, put_queues, put_counts}
 use Rattle.semantics.specs.State.{State, home_of}
 
@@ -65,7 +66,7 @@ judge due s (e ∷ es) k = go_on (due e) (home_laws (home_of s e.place) e) (stop
 
 -- What bounds the safe time: all clocks, and the begins of all open and owed epochs.
 abbrev pub times : State → List ℕ
-times s = flat (λ w. w.clock ∷ map (λ e. e.from) w.epochs) s.threads ++ map (λ e. e.from) s.owed
+times s = flat_map (λ w. w.clock ∷ map (λ e. e.from) w.epochs) s.threads ++ map (λ e. e.from) s.owed
 
 abbrev pub safe : State → ℕ
 safe s = least_of (times s)

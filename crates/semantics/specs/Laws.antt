@@ -1,5 +1,7 @@
 -- The laws of a perform and of an end, each with the conviction where it is broken. Assumes nothing.
 use Rattle.std.specs.Prelude.{ℕ, Bool, false, cond, not, ◌&&◌, ◌||◌, ltb, List, [], ◌∷◌, Some, None, Option, ◌==◌, nat_lt}
+use Rattle.std.specs.List.{find, filter}
+use Rattle.std.specs.Option.{is_some}
 use Rattle.ordering.specs.declared.class.Class.{Class}
 use Rattle.semantics.specs.declared.row.Operation.{Operation}
 use Rattle.semantics.specs.declared.row.Epoch.{Epoch}
@@ -7,7 +9,7 @@ use Rattle.semantics.specs.declared.verdict.Conviction.{Conviction}
 use Rattle.semantics.specs.declared.verdict.Law.{Law}
 use Rattle.semantics.specs.declared.verdict.Law.TheVariants.{SamePlace, Ordered, NoLeave, WrongValue, EndTooEarly, WrongEndValue}
 use Rattle.semantics.specs.Classes.{reads, writes, touches, face, got, puts}
-use Rattle.semantics.specs.Lists.{is_some, find, keep, last_of, first_some}
+use Rattle.semantics.specs.Lists.{last_of, first_some}
 use Rattle.semantics.specs.State.{Thread, epoch_at}
 
 -- A rule, by the pairs that it orders.
@@ -24,7 +26,7 @@ by_rule R x y = R (face x.class) (face y.class)
 
 -- The outstanding operations of a thread that stand before the number n in program order.
 abbrev pub earlier : Thread → ℕ → List Operation
-earlier w n = keep (λ o. ltb o.number n) w.pending
+earlier w n = filter (λ o. ltb o.number n) w.pending
 
 -- The conviction of an operation against another, where there is one.
 abbrev pub blame : Law → ℕ → ℕ → Option Operation → Option Conviction
@@ -41,7 +43,7 @@ law22 B w t o = blame Ordered t o.number (find (λ x. B x o) (earlier w o.number
 
 -- The last earlier outstanding store of its thread to the place of an operation.
 abbrev pub forwarded : Thread → Operation → Option Operation
-forwarded w o = last_of (keep (λ x. writes x.class && x.place == o.place) (earlier w o.number))
+forwarded w o = last_of (filter (λ x. writes x.class && x.place == o.place) (earlier w o.number))
 
 -- The value that an operation reads: from that store, failing that from the copy of its thread's open epoch there.
 abbrev pub source_from : Option Operation → Option Epoch → Option ℕ

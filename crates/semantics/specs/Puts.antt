@@ -1,5 +1,6 @@
 -- How a watch's state is changed: each function puts one part of it. Assumes nothing.
 use Rattle.std.specs.Prelude.{ℕ, ◌+◌, true, not, List, [], ◌∷◌, ◌++◌, ◌==◌, slice_set}
+use Rattle.std.specs.List.{filter}
 use Rattle.semantics.specs.declared.row.Operation.{Operation}
 use Rattle.semantics.specs.declared.row.Epoch.{Epoch}
 use Rattle.semantics.specs.declared.row.Ended.{Ended}
@@ -7,7 +8,6 @@ use Rattle.semantics.specs.declared.row.Home.{Home}
 use Rattle.semantics.specs.declared.verdict.Conviction.{Conviction}
 use Rattle.semantics.specs.declared.verdict.Verdict.{Verdict}
 use Rattle.semantics.specs.declared.verdict.Verdict.TheVariants.{Guilty}
-use Rattle.semantics.specs.Lists.{keep}
 use Rattle.semantics.specs.State.{Thread, State}
 
 -- In a thread.
@@ -56,4 +56,4 @@ convict s c = put_verdict s (Guilty c)
 
 -- What is owed without the number n.
 abbrev pub without : ℕ → List Ended → List Ended
-without n es = keep (λ e. not (e.number == n)) es
+without n es = filter (λ e. not (e.number == n)) es

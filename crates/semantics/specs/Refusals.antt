@@ -1,5 +1,6 @@
 -- When a call is refused: for each call its tests, in checking order. Assumes nothing.
 use Rattle.std.specs.Prelude.{ℕ, Bool, true, not, ◌&&◌, ◌||◌, List, [], ◌∷◌, ◌++◌, length, ◌==◌, nat_le, nat_lt}
+use Rattle.std.specs.Option.{is_some}
 use Rattle.semantics.specs.declared.verdict.Limit.TheVariants as limit
 use Rattle.semantics.specs.declared.verdict.Refusal.{Refusal}
 use Rattle.semantics.specs.declared.verdict.Refusal.TheVariants.{ThreadCount, Convicted, Closed, UnknownThread, UnknownClass, UnknownPlace, PastTime, NotOutstanding, AlreadyBegun, NotOpen, NotOwed, Over, Unfinished}
@@ -8,7 +9,6 @@ use Rattle.semantics.specs.declared.verdict.Verdict.TheVariants.{Running, Clean,
 use Rattle.semantics.specs.Calls.{Call, preset, commit, perform, advance, begin, end, report, drop, settle, close}
 use Rattle.semantics.specs.Classes.{last_class, op_class, touches}
 use Rattle.semantics.specs.Limits.{most_threads, last_place, last_kind, most_outstanding, most_commits, most_open, most_begins, most_owed, most_waiting}
-use Rattle.semantics.specs.Lists.{is_some}
 use Rattle.semantics.specs.State.{State, thread_of, home_of, outstanding_as, epoch_at, owed_as, busy}
 
 -- A test, and the refusal that it means where it holds.

@@ -1,5 +1,6 @@
 -- What a watch holds. Assumes nothing.
 use Rattle.std.specs.Prelude.{ℕ, ◌+◌, false, List, [], ◌∷◌, length, replicate, Option, nat_eq, slice_index_or}
+use Rattle.std.specs.List.{find}
 use Rattle.semantics.specs.declared.row.Operation.{Operation}
 use Rattle.semantics.specs.declared.row.Epoch.{Epoch}
 use Rattle.semantics.specs.declared.row.Ended.{Ended}
@@ -7,7 +8,6 @@ use Rattle.semantics.specs.declared.row.Home.{Home}
 use Rattle.semantics.specs.declared.verdict.Verdict.{Verdict}
 use Rattle.semantics.specs.declared.verdict.Verdict.TheVariants.{Running}
 use Rattle.semantics.specs.Limits.{places}
-use Rattle.semantics.specs.Lists.{find}
 
 -- A thread: its clock, how many operations it committed, those outstanding in program order, and its open epochs.
 pub record Thread : Type 0 where

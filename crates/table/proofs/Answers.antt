@@ -1,12 +1,13 @@
 -- How a call is answered: refused, or as its effect says. Assumes nothing.
 use Rattle.std.proofs.Common.{◌≡◌, ℕ, Bool, true, false, cond, List, [], ◌∷◌, ◌++◌, get_or, Some, None, sym, refl, ap, ◌∙◌}
 use Rattle.std.proofs.lemmas.Bool.{true≢false}
+use Rattle.std.specs.Option.{is_some}
 use Rattle.semantics.specs.declared.verdict.Refusal.{Refusal}
 use Rattle.semantics.specs.declared.verdict.Verdict.TheVariants.{Running}
 use Rattle.semantics.specs.Calls.{Call, Answer, refused}
 use Rattle.semantics.specs.Effect.{effect}
 use Rattle.semantics.specs.Laws.{Precedes}
-use Rattle.semantics.specs.Lists.{is_some, first_of}
+use Rattle.semantics.specs.Lists.{first_of}
 use Rattle.semantics.specs.Refusals.{Test, stopped, stopped_by, no_thread, refusals}
 use Rattle.semantics.specs.State.{State, Thread, thread_of}
 use Rattle.semantics.specs.Step.{step, answered}

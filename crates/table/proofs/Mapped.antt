@@ -1,7 +1,6 @@
 -- Lookups and removals in rows, read as plain rows. Assumes nothing.
 use Rattle.std.proofs.Common.{◌≡◌, Bool, true, false, cond, List, [], ◌∷◌, map, Some, None, Option, refl, ap}
-use Rattle.semantics.specs.Lists.{find, keep}
-use Rattle.semantics.specs.Lists
+use Rattle.std.specs.List.{find, filter}
 
 module _ {A B : Type 0} (f : A → B) where
   -- The mapped one, if there is one.
@@ -17,14 +16,14 @@ module _ {A B : Type 0} (f : A → B) where
       way true ih = refl
       way false ih = ih
 
-  pub keep_map : (p : B → Bool) (xs : List A) → keep p (map f xs) ≡ map f (keep (λ x. p (f x)) xs)
-  keep_map p [] = refl
-  keep_map p (x ∷ xs) = way (p (f x)) (keep_map p xs)
+  pub filter_of_map : (p : B → Bool) (xs : List A) → filter p (map f xs) ≡ map f (filter (λ x. p (f x)) xs)
+  filter_of_map p [] = refl
+  filter_of_map p (x ∷ xs) = way (p (f x)) (filter_of_map p xs)
     where
-      way : (b : Bool) → keep p (map f xs) ≡ map f (keep (λ x. p (f x)) xs) → cond b (f x ∷ keep p (map f xs)) (keep p (map f xs)) ≡ map f (cond b (x ∷ keep (λ x. p (f x)) xs) (keep (λ x. p (f x)) xs))
+      way : (b : Bool) → filter p (map f xs) ≡ map f (filter (λ x. p (f x)) xs) → cond b (f x ∷ filter p (map f xs)) (filter p (map f xs)) ≡ map f (cond b (x ∷ filter (λ x. p (f x)) xs) (filter (λ x. p (f x)) xs))
       way true ih = ap (λ ys. f x ∷ ys) ih
       way false ih = ih
 
-  pub lists_map : {C : Type 0} (g : B → C) (xs : List A) → Lists.map g (map f xs) ≡ Lists.map (λ x. g (f x)) xs
-  lists_map g [] = refl
-  lists_map g (x ∷ xs) = ap (λ ys. g (f x) ∷ ys) (lists_map g xs)
+  pub map_of_map : {C : Type 0} (g : B → C) (xs : List A) → map g (map f xs) ≡ map (λ x. g (f x)) xs
+  map_of_map g [] = refl
+  map_of_map g (x ∷ xs) = ap (λ ys. g (f x) ∷ ys) (map_of_map g xs)

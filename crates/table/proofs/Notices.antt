@@ -2,6 +2,8 @@
 use Rattle.std.proofs.Common.{◌≡◌, ℕ, ◌+◌, ◌<◌, ◌≤◌, Bool, true, false, cond, not, eqb, leb, ◌⊎◌, List, [], ◌∷◌, map, length, get_or, take, Some, None, sym, refl, ap, ◌∙◌, inl, inr, arith}
 use Rattle.std.proofs.lemmas.List.{length-take, length-map}
 use Rattle.std.proofs.lemmas.Bool.{le-leb, lt-leb}
+use Rattle.std.specs.List.{find, filter}
+use Rattle.std.specs.Option.{is_some}
 use Rattle.queue.proofs.Sorts.{length_sorted}
 use Rattle.queue.specs.Order
 use Rattle.rows.proofs.Counted.{row_read, shorter}
@@ -16,7 +18,7 @@ use Rattle.semantics.specs.Calls.{report, drop, taken, convicted}
 use Rattle.semantics.specs.Effect.{report_found, drop_found, dropping}
 use Rattle.semantics.specs.Judging.{ended_le, insert}
 use Rattle.semantics.specs.Laws.{Precedes}
-use Rattle.semantics.specs.Lists.{first_of, find, is_some, keep}
+use Rattle.semantics.specs.Lists.{first_of}
 use Rattle.semantics.specs.Puts.{put_queues, put_counts, convict, without}
 use Rattle.semantics.specs.Refusals.{refusals}
 use Rattle.semantics.specs.State.{State, owed_as}
@@ -28,7 +30,7 @@ use Rattle.ended.proofs.Sorts.{map_insert}
 use Rattle.table.specs.declared.table.Table.{Table}
 use Rattle.table.specs.Views.{view, Meets, Owes}
 use Rattle.table.proofs.Answers.{takes, goes}
-use Rattle.table.proofs.Mapped.{onto, find_map, keep_map}
+use Rattle.table.proofs.Mapped.{onto, find_map, filter_of_map}
 
 abbrev pub numbered : ℕ → EndedRow → Bool
 numbered n e = eqb e.number n
@@ -46,11 +48,11 @@ owed_row s n i d f =
 pub owed_none : (s : Table) (n : ℕ) → find (numbered n) (take s.owing s.owed) ≡ None → owed_as (view s) n ≡ None
 owed_none s n e = find_map plain (λ e. eqb e.number n) (take s.owing s.owed) ∙ ap (onto plain) e
 
-pub owed_without : (s : Table) (n k : ℕ) (rows : List EndedRow) → take k rows ≡ keep (λ e. not (numbered n e)) (take s.owing s.owed) → map plain (take k rows) ≡ without n (view s).owed
-owed_without s n k rows e = ap (map plain) e ∙ sym (keep_map plain (λ e. not (eqb e.number n)) (take s.owing s.owed))
+pub owed_without : (s : Table) (n k : ℕ) (rows : List EndedRow) → take k rows ≡ filter (λ e. not (numbered n e)) (take s.owing s.owed) → map plain (take k rows) ≡ without n (view s).owed
+owed_without s n k rows e = ap (map plain) e ∙ sym (filter_of_map plain (λ e. not (eqb e.number n)) (take s.owing s.owed))
 
 -- Without the row of a notice: the array is as long, and at least one row fewer is in use.
-pub owed_taken_out : (s : Table) (n i k : ℕ) (rows : List EndedRow) → Owes s n i → k ≤ s.owing → length rows ≡ length s.owed → take k rows ≡ keep (λ e. not (numbered n e)) (take s.owing s.owed) → (length rows ≡ 32) × (k + 1 ≤ s.owing)
+pub owed_taken_out : (s : Table) (n i k : ℕ) (rows : List EndedRow) → Owes s n i → k ≤ s.owing → length rows ≡ length s.owed → take k rows ≡ filter (λ e. not (numbered n e)) (take s.owing s.owed) → (length rows ≡ 32) × (k + 1 ≤ s.owing)
 owed_taken_out s n i k rows o m l e =
     let w = s.owed_long in
     let f = s.owing_fits in

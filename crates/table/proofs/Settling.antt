@@ -1,7 +1,9 @@
 -- The safe time, an idle table, and what settle answers. Assumes nothing.
-use Rattle.std.proofs.Common.{◌≡◌, ℕ, ◌+◌, ◌-◌, ◌<◌, ◌≤◌, min, true, false, eqb, ltb, List, [], ◌∷◌, ◌++◌, length, get_or, take, drop, Some, None, sym, refl, ap, ◌∙◌, arith}
+use Rattle.std.proofs.Common.{◌≡◌, ℕ, ◌+◌, ◌-◌, ◌<◌, ◌≤◌, min, true, false, eqb, ltb, List, [], ◌∷◌, ◌++◌, length, get_or, take, drop, Some, None, sym, ap, ◌∙◌, arith, map}
 use Rattle.std.proofs.lemmas.List.{drop_more, drop_all}
+use Rattle.std.proofs.lemmas.List.Sums.{fold-append}
 use Rattle.std.proofs.lemmas.Bool.{eqb-true, eqb-false, ne_eqb}
+use Rattle.std.specs.List.{flat_map, fold}
 use Rattle.semantics.specs.declared.row.Ended.{Ended}
 use Rattle.semantics.specs.declared.verdict.Conviction.{Conviction}
 use Rattle.semantics.specs.declared.verdict.Refusal.{Refusal}
@@ -10,7 +12,7 @@ use Rattle.semantics.specs.Calls.{settle, taken, refused, convicted}
 use Rattle.semantics.specs.Effect.{settled}
 use Rattle.semantics.specs.Judging.{judge, safe}
 use Rattle.semantics.specs.Laws.{Precedes}
-use Rattle.semantics.specs.Lists.{least, least_of, flat, map, first_of}
+use Rattle.semantics.specs.Lists.{least_of, first_of}
 use Rattle.semantics.specs.Puts.{convict}
 use Rattle.semantics.specs.Refusals.{Test, stopped, stopped_by}
 use Rattle.semantics.specs.State.{State, Thread, idle, thread_of, busy, busy_threads}
@@ -24,43 +26,39 @@ use Rattle.table.specs.Judgings.{judging}
 use Rattle.table.specs.Views.{view, Meets}
 use Rattle.table.proofs.Answers.{refuses}
 use Rattle.table.proofs.Ends.{length_owed}
-use Rattle.table.proofs.Mapped.{lists_map}
+use Rattle.table.proofs.Mapped.{map_of_map}
 use Rattle.table.proofs.Rows.{row_of, length_threads}
 
-least_append : (m : ℕ) (xs ys : List ℕ) → least m (xs ++ ys) ≡ least (least m xs) ys
-least_append m [] ys = refl
-least_append m (x ∷ xs) ys = least_append (min m x) xs ys
-
 -- One more thread.
-pub earliest_more : (s : Table) (t m n : ℕ) (d : ThreadRow) → t < s.count → n ≡ least m (thread_times (view_thread (get_or s.threads t d)))
-    → least n (flat thread_times (drop (t + 1) (view s).threads)) ≡ least m (flat thread_times (drop t (view s).threads))
+pub earliest_more : (s : Table) (t m n : ℕ) (d : ThreadRow) → t < s.count → n ≡ fold min m (thread_times (view_thread (get_or s.threads t d)))
+    → fold min n (flat_map thread_times (drop (t + 1) (view s).threads)) ≡ fold min m (flat_map thread_times (drop t (view s).threads))
 earliest_more s t m n d l e =
     let ws = (view s).threads in
     let c = length_threads s in
     let k : t < length ws = omega arith in
-    let rest = flat thread_times (drop (t + 1) ws) in
-    ap (λ x. least x rest) (e ∙ ap (λ w. least m (thread_times w)) (sym (row_of s t d k)))
-    ∙ sym (least_append m (thread_times (thread_of (view s) t)) rest)
-    ∙ ap (λ vs. least m (flat thread_times vs)) (sym (drop_more ws t idle k))
+    let rest = flat_map thread_times (drop (t + 1) ws) in
+    ap (λ x. fold min x rest) (e ∙ ap (λ w. fold min m (thread_times w)) (sym (row_of s t d k)))
+    ∙ sym (fold-append min m (thread_times (thread_of (view s) t)) rest)
+    ∙ ap (λ vs. fold min m (flat_map thread_times vs)) (sym (drop_more ws t idle k))
 
-first_clock : (ws : List Thread) (os : List ℕ) → 0 < length ws → least (get_or ws 0 idle).clock (flat thread_times ws ++ os) ≡ least_of (flat thread_times ws ++ os)
+first_clock : (ws : List Thread) (os : List ℕ) → 0 < length ws → fold min (get_or ws 0 idle).clock (flat_map thread_times ws ++ os) ≡ least_of (flat_map thread_times ws ++ os)
 first_clock [] os l = absurd (omega arith)
-first_clock (w ∷ ws) os l = let e : min w.clock w.clock ≡ w.clock = omega arith in ap (λ m. least m ((map (λ e. e.from) w.epochs ++ flat thread_times ws) ++ os)) e
+first_clock (w ∷ ws) os l = let e : min w.clock w.clock ≡ w.clock = omega arith in ap (λ m. fold min m ((map (λ e. e.from) w.epochs ++ flat_map thread_times ws) ++ os)) e
 
 -- The owed epochs' begins, as the plain rows have them.
 owed_begins : (s : Table) → map (λ (e : EndedRow). e.span.begin) (take s.owing s.owed) ≡ map (λ (e : Ended). e.from) (view s).owed
-owed_begins s = sym (lists_map plain (λ (e : Ended). e.from) (take s.owing s.owed))
+owed_begins s = sym (map_of_map plain (λ (e : Ended). e.from) (take s.owing s.owed))
 
-pub safe_is : (s : Table) (m t r : ℕ) → s.count ≤ t → least m (flat thread_times (drop t (view s).threads)) ≡ least (get_or (view s).threads 0 idle).clock (flat thread_times (view s).threads)
-    → r ≡ least m (map (λ (e : EndedRow). e.span.begin) (take (s.owing - 0) s.owed)) → r ≡ safe (view s)
+pub safe_is : (s : Table) (m t r : ℕ) → s.count ≤ t → fold min m (flat_map thread_times (drop t (view s).threads)) ≡ fold min (get_or (view s).threads 0 idle).clock (flat_map thread_times (view s).threads)
+    → r ≡ fold min m (map (λ (e : EndedRow). e.span.begin) (take (s.owing - 0) s.owed)) → r ≡ safe (view s)
 safe_is s m t r l inv e =
     let ws = (view s).threads in
     let c = length_threads s in
     let some = s.count_some in
     let os = map (λ (e : Ended). e.from) (view s).owed in
     let z : s.owing - 0 ≡ s.owing = omega arith in
-    let a : m ≡ least (get_or ws 0 idle).clock (flat thread_times ws) = sym (ap (λ vs. least m (flat thread_times vs)) (drop_all t ws (omega arith))) ∙ inv in
-    e ∙ ap (λ k. least m (map (λ (e : EndedRow). e.span.begin) (take k s.owed))) z ∙ ap (least m) (owed_begins s) ∙ ap (λ x. least x os) a ∙ sym (least_append (get_or ws 0 idle).clock (flat thread_times ws) os) ∙ first_clock ws os (omega arith)
+    let a : m ≡ fold min (get_or ws 0 idle).clock (flat_map thread_times ws) = sym (ap (λ vs. fold min m (flat_map thread_times vs)) (drop_all t ws (omega arith))) ∙ inv in
+    e ∙ ap (λ k. fold min m (map (λ (e : EndedRow). e.span.begin) (take k s.owed))) z ∙ ap (fold min m) (owed_begins s) ∙ ap (λ x. fold min x os) a ∙ sym (fold-append min (get_or ws 0 idle).clock (flat_map thread_times ws) os) ∙ first_clock ws os (omega arith)
 
 -- One more idle thread.
 busy_more : (s : Table) (t : ℕ) (d : ThreadRow) → t < s.count

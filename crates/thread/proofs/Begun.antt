@@ -1,8 +1,8 @@
 -- What holds of every row goes on to hold, and open epochs stay begun. Assumes nothing.
 use Rattle.std.proofs.Common.{◌≡◌, ℕ, zero, suc, ◌<◌, ◌≤◌, Bool, true, false, cond, ◌&&◌, leb, List, [], ◌∷◌, ◌++◌, length, get_or, set, sym, refl, ap, ◌∙◌, arith}
 use Rattle.std.proofs.lemmas.Bool.Decides.{nat_tests}
+use Rattle.std.specs.List.{filter}
 use Rattle.semantics.specs.declared.row.Epoch.{Epoch}
-use Rattle.semantics.specs.Lists.{keep}
 use Rattle.thread.specs.Begun.{all, begun_by}
 
 both : (a b : Bool) → a ≡ true → b ≡ true → (a && b) ≡ true
@@ -24,12 +24,12 @@ pub all_push : {A : Type 0} (p : A → Bool) (xs : List A) (y : A) → all p xs 
 all_push p [] y e h = both (p y) true h refl
 all_push p (x ∷ xs) y e h = both (p x) (all p (xs ++ (y ∷ []))) (left (p x) (all p xs) e) (all_push p xs y (right (p x) (all p xs) e) h)
 
-pub all_kept : {A : Type 0} (p q : A → Bool) (xs : List A) → all p xs ≡ true → all p (keep q xs) ≡ true
+pub all_kept : {A : Type 0} (p q : A → Bool) (xs : List A) → all p xs ≡ true → all p (filter q xs) ≡ true
 all_kept p q [] e = refl
 all_kept p q (x ∷ xs) e = by (q x) (left (p x) (all p xs) e) (all_kept p q xs (right (p x) (all p xs) e))
   where
-    by : (b : Bool) → p x ≡ true → all p (keep q xs) ≡ true → all p (cond b (x ∷ keep q xs) (keep q xs)) ≡ true
-    by true h ih = both (p x) (all p (keep q xs)) h ih
+    by : (b : Bool) → p x ≡ true → all p (filter q xs) ≡ true → all p (cond b (x ∷ filter q xs) (filter q xs)) ≡ true
+    by true h ih = both (p x) (all p (filter q xs)) h ih
     by false h ih = ih
 
 pub all_set : {A : Type 0} (p : A → Bool) (xs : List A) (i : ℕ) (y : A) → all p xs ≡ true → p y ≡ true → all p (set xs i y) ≡ true

@@ -1,8 +1,10 @@
 -- The laws of a perform, by what lookups found. Assumes nothing.
 use Rattle.std.proofs.Common.{◌≡◌, ℕ, Bool, true, false, cond, not, ◌&&◌, ◌||◌, eqb, ltb, List, [], ◌∷◌, Some, None, Option, sym, refl, ap, ◌∙◌}
 use Rattle.std.proofs.lemmas.Bool.{true≢false}
+use Rattle.std.specs.List.{find, filter}
+use Rattle.std.specs.Option.{is_some}
 use Rattle.rows.specs.Found.{Found}
-use Rattle.rows.proofs.Lookups.{find_keep, keep_keep}
+use Rattle.rows.proofs.Lookups.{find_filter, filter_filter}
 use Rattle.semantics.specs.declared.class.OpClass.{OpClass}
 use Rattle.semantics.specs.declared.class.OpClass.TheVariants.{Load, Store}
 use Rattle.semantics.specs.declared.row.Operation.{Operation}
@@ -12,7 +14,7 @@ use Rattle.semantics.specs.declared.verdict.Law.TheVariants.{SamePlace, Ordered,
 use Rattle.semantics.specs.Classes.{reads, writes, touches, face}
 use Rattle.semantics.specs.Effect.{touch, load_answer}
 use Rattle.semantics.specs.Laws.{Rule, by_rule, earlier, blame, law21, law22, forwarded, source, source_from, may_write, needs_value}
-use Rattle.semantics.specs.Lists.{is_some, find, keep, last_of, change, first_some}
+use Rattle.semantics.specs.Lists.{last_of, change, first_some}
 use Rattle.semantics.specs.State.{Thread, epoch_at}
 use Rattle.thread.specs.declared.served.Performed.TheVariants.{Done, Forwarded, Copied}
 use Rattle.thread.specs.declared.served.Served.{Served}
@@ -31,13 +33,13 @@ goes_before R o x = cond (ltb x.number o.number) (R (face x.class) (face o.class
 pub law21_is : (w : Thread) (t : ℕ) (o : Operation) (f : Option Operation) → writes o.class ≡ true → find (shares_place o) w.pending ≡ f → law21 w t o ≡ blame SamePlace t o.number f
 law21_is w t o f s e =
     ap (λ b. cond b (blame SamePlace t o.number (find (λ x. touches x.class && eqb x.place o.place) (earlier w o.number))) None) s
-    ∙ ap (blame SamePlace t o.number) (find_keep (λ x. ltb x.number o.number) (λ x. touches x.class && eqb x.place o.place) w.pending ∙ e)
+    ∙ ap (blame SamePlace t o.number) (find_filter (λ x. ltb x.number o.number) (λ x. touches x.class && eqb x.place o.place) w.pending ∙ e)
 
 pub law22_is : (R : Rule) (w : Thread) (t : ℕ) (o : Operation) (f : Option Operation) → find (goes_before R o) w.pending ≡ f → law22 (by_rule R) w t o ≡ blame Ordered t o.number f
-law22_is R w t o f e = ap (blame Ordered t o.number) (find_keep (λ x. ltb x.number o.number) (λ x. R (face x.class) (face o.class)) w.pending ∙ e)
+law22_is R w t o f e = ap (blame Ordered t o.number) (find_filter (λ x. ltb x.number o.number) (λ x. R (face x.class) (face o.class)) w.pending ∙ e)
 
-pub forwarded_is : (w : Thread) (o : Operation) (f : Option Operation) → last_of (keep (feeds o) w.pending) ≡ f → forwarded w o ≡ f
-forwarded_is w o f e = ap last_of (keep_keep (λ x. ltb x.number o.number) (λ x. writes x.class && eqb x.place o.place) w.pending) ∙ e
+pub forwarded_is : (w : Thread) (o : Operation) (f : Option Operation) → last_of (filter (feeds o) w.pending) ≡ f → forwarded w o ≡ f
+forwarded_is w o f e = ap last_of (filter_filter (λ x. ltb x.number o.number) (λ x. writes x.class && eqb x.place o.place) w.pending) ∙ e
 
 -- Laws 23 and 24, by the class, whether the thread may write the place, and the source.
 abbrev leave_by : ℕ → Operation → OpClass → Bool → Option ℕ → Option Conviction

@@ -1,12 +1,13 @@
 -- Refusal tests in turn. Assumes nothing.
 use Rattle.std.proofs.Common.{◌≡◌, ℕ, ◌<◌, ◌≤◌, Bool, true, false, cond, not, eqb, ltb, leb, List, [], ◌∷◌, length, Some, None, ap, ◌∙◌, arith}
 use Rattle.std.proofs.lemmas.Bool.{le-ltb}
+use Rattle.std.specs.Option.{is_some}
 use Rattle.rows.specs.Found.{Found}
 use Rattle.semantics.specs.declared.row.Operation.{Operation}
 use Rattle.semantics.specs.declared.verdict.Refusal.{Refusal}
 use Rattle.semantics.specs.declared.verdict.Refusal.TheVariants.{UnknownClass, UnknownPlace, PastTime, NotOutstanding, AlreadyBegun, NotOpen, Over}
 use Rattle.semantics.specs.declared.verdict.Limit.TheVariants as limit
-use Rattle.semantics.specs.Lists.{first_of, is_some}
+use Rattle.semantics.specs.Lists.{first_of}
 use Rattle.semantics.specs.Refusals.{Test}
 use Rattle.semantics.specs.State.{Thread, outstanding_as, epoch_at}
 use Rattle.thread.specs.Performing.{no_epoch}

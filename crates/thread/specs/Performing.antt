@@ -1,12 +1,14 @@
 -- What a perform and an end find in a thread, and what they leave. Assumes nothing.
 use Rattle.std.specs.Prelude.{◌≡◌, ℕ, ◌<◌, false, cond, not, List, [], ◌∷◌, ◌++◌, length, Some, None, Option, ◌==◌, nat_eq, slice_index_or, slice_set}
+use Rattle.std.specs.List.{filter}
+use Rattle.std.specs.Option.{is_some}
 use Rattle.semantics.specs.declared.row.Operation.{Operation}
 use Rattle.semantics.specs.declared.row.Epoch.{Epoch}
 use Rattle.semantics.specs.declared.verdict.Conviction.{Conviction}
 use Rattle.semantics.specs.Classes.{puts}
 use Rattle.semantics.specs.Effect.{touch, touched, answer_of, load_answer}
 use Rattle.semantics.specs.Laws.{forwarded, source, law23, law24, end_laws}
-use Rattle.semantics.specs.Lists.{is_some, first_some, keep, change}
+use Rattle.semantics.specs.Lists.{first_some, change}
 use Rattle.semantics.specs.Puts.{put_clock, put_pending, put_epochs}
 use Rattle.semantics.specs.State.{Thread}
 use Rattle.thread.specs.declared.served.Performed.{Performed}
@@ -61,7 +63,7 @@ pub record Sourced (w : Thread) (o : Operation) (v : ℕ) (s : Served) : Type 0 
 
 -- A thread without an operation.
 abbrev pub retired : ℕ → Thread → Thread
-retired n w = put_pending w (keep (λ x. not (x.number == n)) w.pending)
+retired n w = put_pending w (filter (λ x. not (x.number == n)) w.pending)
 
 -- A thread with one more open epoch.
 abbrev pub with_epoch : Epoch → Thread → Thread
@@ -69,7 +71,7 @@ with_epoch e w = put_clock (put_epochs w (w.epochs ++ (e ∷ []))) e.from
 
 -- A thread without the epoch of a place, which ended at a time.
 abbrev pub without_epoch : ℕ → ℕ → Thread → Thread
-without_epoch p τ w = put_clock (put_epochs w (keep (λ x. not (x.place == p)) w.epochs)) τ
+without_epoch p τ w = put_clock (put_epochs w (filter (λ x. not (x.place == p)) w.epochs)) τ
 
 -- The span of an epoch that ends with no law broken.
 pub record Spans (t : ℕ) (e : Epoch) (v τ : ℕ) (s : Span) : Type 0 where

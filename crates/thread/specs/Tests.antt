@@ -1,12 +1,12 @@
 -- The refusals that a thread alone tells, call by call in checking order. Assumes nothing.
 use Rattle.std.specs.Prelude.{ℕ, cond, not, ◌&&◌, List, [], ◌∷◌, length, nat_le, nat_lt}
+use Rattle.std.specs.Option.{is_some}
 use Rattle.semantics.specs.declared.class.OpClass.{OpClass}
 use Rattle.semantics.specs.declared.row.Operation.{Operation}
 use Rattle.semantics.specs.declared.verdict.Limit.TheVariants as limit
 use Rattle.semantics.specs.declared.verdict.Refusal.TheVariants.{UnknownClass, UnknownPlace, PastTime, NotOutstanding, AlreadyBegun, NotOpen, Over}
 use Rattle.semantics.specs.Classes.{last_class, op_class, touches}
 use Rattle.semantics.specs.Limits.{last_place, last_kind, most_outstanding, most_commits, most_open}
-use Rattle.semantics.specs.Lists.{is_some}
 use Rattle.semantics.specs.Refusals.{Test, no_place}
 use Rattle.semantics.specs.State.{Thread, outstanding_as, epoch_at}
 

@@ -1,6 +1,5 @@
 -- What the rows of a thread mean. Assumes nothing.
-use Rattle.std.specs.Prelude.{ℕ, List, ◌∷◌, take}
-use Rattle.semantics.specs.Lists.{map}
+use Rattle.std.specs.Prelude.{ℕ, List, ◌∷◌, take, map}
 use Rattle.semantics.specs.State.{Thread}
 use Rattle.thread.specs.declared.row.ThreadRow.{ThreadRow}
 

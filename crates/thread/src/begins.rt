@@ -1,6 +1,6 @@
 // The least begin of some rows.
-ghost use Rattle.std.specs.Prelude.{◌≡◌, ℕ};
-ghost use Rattle.semantics.specs.Lists.{least, map};
+ghost use Rattle.std.specs.Prelude.{◌≡◌, ℕ, map, min};
+ghost use Rattle.std.specs.List.{fold};
 
 use semantics::row::Epoch;
 
@@ -22,7 +22,7 @@ impl Begins for Epoch {
 
 // The least of a time and the begins of some rows.
 pub fn least_begin<T: Begins>(rows: &[T], time: u64) -> u64
-    ensures { result ≡ least time (map T.begins rows.now) }
+    ensures { result ≡ fold min time (map T.begins rows.now) }
 {
     let mut least = time;
     for row in rows {

@@ -1,7 +1,7 @@
 // A thread that has done nothing, and what can be asked of one.
-ghost use Rattle.std.specs.Prelude.{◌≡◌, ◌+◌, length, ◌==◌};
+ghost use Rattle.std.specs.Prelude.{◌≡◌, ◌+◌, length, ◌==◌, min};
+ghost use Rattle.std.specs.List.{fold};
 ghost use Rattle.semantics.specs.Asking.{free_places};
-ghost use Rattle.semantics.specs.Lists.{least};
 ghost use Rattle.semantics.specs.State.{idle};
 ghost use Rattle.thread.specs.View.{view_thread, thread_times};
 
@@ -41,7 +41,7 @@ impl ThreadRow {
 
     // The least of a time, the clock and the begins of the open epochs.
     pub fn earliest(&self, time: u64) -> u64
-        ensures { result ≡ least time (thread_times (view_thread self.now)) }
+        ensures { result ≡ fold min time (thread_times (view_thread self.now)) }
     {
         least_begin(&self.epochs[0..self.held], time.min(self.clock))
     }

@@ -1,9 +1,10 @@
 // When a thread refuses a call, and the steps that break no law.
 ghost use Rattle.std.specs.Prelude.{◌≡◌, ℕ, ◌+◌, ◌<◌, ◌≤◌, Some, None, MatchResult, nat_eq};
+ghost use Rattle.std.specs.Option.{is_some};
 ghost use Rattle.ordering.specs.Classes.{known_class};
 ghost use Rattle.rows.specs.Found.{Found};
 ghost use Rattle.semantics.specs.Classes.{op_class, of_face, operation};
-ghost use Rattle.semantics.specs.Lists.{first_of, is_some};
+ghost use Rattle.semantics.specs.Lists.{first_of};
 ghost use Rattle.semantics.specs.Puts.{committed as committed_by};
 ghost use Rattle.semantics.specs.State.{outstanding_as, epoch_at};
 ghost use Rattle.thread.specs.Performing.{with_epoch, without_epoch};

@@ -1,7 +1,7 @@
 use Rattle.std.proofs.Common.{◌≡◌, None}
+use Rattle.std.specs.List.{find}
 use Rattle.rows.specs.Found.{Found}
 use Rattle.rows.proofs.Counted.{whole}
-use Rattle.semantics.specs.Lists.{find}
 use Rattle.table.proofs.Notices.{numbered, drop_free, drop_refused}
 use Rattle.table.proofs.table.Table.owes.Goals as goal
 

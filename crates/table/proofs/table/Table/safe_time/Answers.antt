@@ -1,5 +1,5 @@
-use Rattle.std.proofs.Common.{sym, ap, ◌∙◌, arith}
-use Rattle.semantics.specs.Lists.{least, flat}
+use Rattle.std.proofs.Common.{sym, ap, ◌∙◌, arith, min}
+use Rattle.std.specs.List.{flat_map, fold}
 use Rattle.semantics.specs.State.{Thread}
 use Rattle.thread.specs.View.{thread_times}
 use Rattle.table.specs.Views.{view}
@@ -12,7 +12,7 @@ loop-t-init c =
     let s = c.args.self.now in
     let n = length_threads s in
     let f = s.count_some in
-    ap (λ (w : Thread). least w.clock (flat thread_times (view s).threads)) (sym (row_of s 0 c.index-self-0.result (omega arith)))
+    ap (λ (w : Thread). fold min w.clock (flat_map thread_times (view s).threads)) (sym (row_of s 0 c.index-self-0.result (omega arith)))
 
 pub loop-t-preserved : goal.loop-t-preserved
 loop-t-preserved c = earliest_more c.args.self.now c.loop-t.t c.loop-t.time _ c.index-self-t.result c.loop-t-test.true c.earliest-time.ensures ∙ c.loop-t.invariant

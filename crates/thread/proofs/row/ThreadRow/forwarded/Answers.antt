@@ -1,6 +1,7 @@
 use Rattle.std.proofs.Common.{◌≡◌, Some, None, sym, ap}
+use Rattle.std.specs.List.{filter}
 use Rattle.rows.proofs.Counted.{whole, last_row}
-use Rattle.semantics.specs.Lists.{keep, last_of}
+use Rattle.semantics.specs.Lists.{last_of}
 use Rattle.thread.specs.Performing.{value_put}
 use Rattle.thread.specs.View.{view_thread}
 use Rattle.thread.proofs.Laws.{feeds, forwarded_is}
@@ -16,4 +17,4 @@ pub returns-in-None : goal.returns-in-None
 returns-in-None c =
     let w = c.args.self.now in
     let o = c.args.op in
-    sym (ap value_put (forwarded_is (view_thread w) o None (whole (λ ys. last_of (keep (feeds o) ys) ≡ None) w.pending w.outstanding c.in-None.ensures)))
+    sym (ap value_put (forwarded_is (view_thread w) o None (whole (λ ys. last_of (filter (feeds o) ys) ≡ None) w.pending w.outstanding c.in-None.ensures)))

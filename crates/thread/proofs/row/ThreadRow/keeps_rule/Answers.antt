@@ -1,6 +1,6 @@
 use Rattle.std.proofs.Common.{◌≡◌, Some, None}
+use Rattle.std.specs.List.{find}
 use Rattle.rows.proofs.Counted.{whole, found_row}
-use Rattle.semantics.specs.Lists.{find}
 use Rattle.thread.specs.View.{view_thread}
 use Rattle.thread.proofs.Laws.{goes_before, law22_is}
 use Rattle.thread.proofs.row.ThreadRow.keeps_rule.Goals as goal
