@@ -4,7 +4,7 @@
 use ordering::bytes::ByteTable;
 use semantics::counts::Counts;
 use semantics::verdict::{Conviction, Verdict};
-use std::io;
+use std::{fmt, io};
 use table::fault::Fault;
 use thread::served::Performed;
 use watch::notice::{Notice, Returned};
@@ -15,6 +15,7 @@ use watch::watch::Watch;
 // the pairs of which the bytes are missing are ordered.
 const RULE: [u8; 19] = [1, 1, 1, 1, 1, 1, 1, 1, 1, 1, 1, 1, 1, 1, 1, 1, 1, 1, 0];
 
+// The numbers of classes and kinds, as the calls of a watch take them. Made from a class they would be no plainer: a barrier's takes a mask.
 const LOAD: u64 = 0;
 
 const STORE: u64 = 1;
@@ -36,15 +37,14 @@ struct Story {
 
 // Reports a notice, or drops it where the report is refused.
 fn hand_in(watch: &mut Watch<ByteTable<'_>>, notice: Notice) -> Result<(), Fault> {
-    match watch.report(notice) {
-        Ok(()) => Ok(()),
-        Err(Returned { notice, refusal: _ }) => watch.drop(notice),
-    }
+    watch
+        .report(notice)
+        .or_else(|Returned { notice, refusal: _ }| watch.drop(notice))
 }
 
 // Thread 0 stores 7 and reads it at once, from its own store; then thread 1 reads it in an epoch of its own.
 fn handing_over() -> Result<Story, Fault> {
-    let mut watch = Watch::new(ByteTable { bytes: &RULE }, Threads::new(2)?);
+    let mut watch = Watch::new(ByteTable { bytes: &RULE }, Threads::try_from(2)?);
     watch.preset(3, 5)?;
     let store = watch.commit(0, STORE, 3, 7)?;
     let load = watch.commit(0, LOAD, 3, 7)?;
@@ -69,7 +69,7 @@ fn handing_over() -> Result<Story, Fault> {
 
 // A load goes past a barrier, which the rule forbids.
 fn overtaking() -> Result<Performed, Fault> {
-    let mut watch = Watch::new(ByteTable { bytes: &RULE }, Threads::new(1)?);
+    let mut watch = Watch::new(ByteTable { bytes: &RULE }, Threads::try_from(1)?);
     let _ = watch.commit(0, STORE, 3, 7)?;
     let _ = watch.commit(0, FULL_BARRIER, 0, 0)?;
     let load = watch.commit(0, LOAD, 4, 0)?;
@@ -77,6 +77,7 @@ fn overtaking() -> Result<Performed, Fault> {
     watch.perform(0, load, 2)
 }
 
+// A word for an enum of the library, which this program alone shows.
 fn source(load: Performed) -> &'static str {
     match load {
         Performed::Done => "nothing",
@@ -85,6 +86,7 @@ fn source(load: Performed) -> &'static str {
     }
 }
 
+// As above.
 fn word(verdict: Verdict) -> &'static str {
     match verdict {
         Verdict::Running => "running",
@@ -93,40 +95,56 @@ fn word(verdict: Verdict) -> &'static str {
     }
 }
 
-fn print_fault(rt: HostRuntime, fault: Fault) -> io::Result<()> {
-    match fault {
-        Fault::Refused(refusal) => println!(rt; "refused: {}", refusal.number()),
-        Fault::Convicted(
-            Conviction {
-                law,
-                thread,
-                number,
-                other,
-            },
-        ) => {
-            println!(rt;
+// Writes what the loads read, how the epochs were judged, and the verdict, a line each.
+impl fmt::Display for Story {
+    fn fmt<W: fmt::Write>(&self, f: &mut fmt::Formatter<W>) -> fmt::Result {
+        let first = source(self.first_load);
+        let second = source(self.second_load);
+        let Counts {
+            judged,
+            dropped,
+            ..
+        } = self.counts;
+        let verdict = word(self.verdict);
+        write!(
+            f,
+            "thread 0 read {first}\nthread 1 read {second}\njudged {judged}, dropped {dropped}\n{verdict}"
+        )
+    }
+}
+
+// A fault in the words of this program.
+#[derive(Clone, Copy)]
+struct Told(Fault);
+
+// Writes a refusal by its number, and a conviction by its law and what it names.
+impl fmt::Display for Told {
+    fn fmt<W: fmt::Write>(&self, f: &mut fmt::Formatter<W>) -> fmt::Result {
+        match self.0 {
+            Fault::Refused(refusal) => write!(f, "refused: {}", refusal.number()),
+            Fault::Convicted(
+                Conviction {
+                    law,
+                    thread,
+                    number,
+                    other,
+                },
+            ) => write!(
+                f,
                 "convicted: law {}, thread {thread}, number {number}, other {other}",
                 law.number()
-            )
+            ),
         }
     }
 }
 
 fn main(rt: HostRuntime) -> io::Result<()> {
     match handing_over() {
-        Ok(story) => {
-            println!(rt; "thread 0 read {}", source(story.first_load))?;
-            println!(rt; "thread 1 read {}", source(story.second_load))?;
-            println!(rt;
-                "judged {}, dropped {}",
-                story.counts.judged, story.counts.dropped
-            )?;
-            println!(rt; "{}", word(story.verdict))?;
-        }
-        Err(fault) => print_fault(rt, fault)?,
+        Ok(story) => println!(rt; "{story}")?,
+        Err(fault) => println!(rt; "{}", Told(fault))?,
     }
     match overtaking() {
         Ok(load) => println!(rt; "the load read {}", source(load)),
-        Err(fault) => print_fault(rt, fault),
+        Err(fault) => println!(rt; "{}", Told(fault)),
     }
 }

@@ -1,2 +1,3 @@
-pub mod Plain
-pub mod Orders
+pub mod Order
+pub mod Exact
+pub mod Waiting

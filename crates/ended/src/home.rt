@@ -1,18 +1,17 @@
 // How a home judges an ended epoch.
 ghost use Rattle.std.specs.Prelude.{◌≡◌, Some, None, MatchResult};
 ghost use Rattle.semantics.specs.Judging.{bar, home_laws, judged_home};
-ghost use Rattle.ended.specs.Plain.{plain};
 
 use crate::row::EndedRow;
 use semantics::row::Home;
 use semantics::verdict::{Conviction, Law};
 
-// Laws 27 and 28.
+// Laws 27 and 28. The two convictions are written out: they share two fields of four.
 pub fn keeps_home(home: Home, row: EndedRow) -> Result<(), Conviction>
-    ensures { MatchResult result (λ _. home_laws home (plain row) ≡ None) (λ c. home_laws home (plain row) ≡ Some c) }
+    ensures { MatchResult result (λ _. home_laws home row ≡ None) (λ c. home_laws home row ≡ Some c) }
 {
     let latest = latest_end(home, row);
-    if row.span.begin < latest {
+    if row.span.begin() < latest {
         return Err(Conviction {
             law: Law::Overlap,
             thread: row.thread,
@@ -33,7 +32,7 @@ pub fn keeps_home(home: Home, row: EndedRow) -> Result<(), Conviction>
 
 // The end that an epoch may not begin before: of a write the later of both latest ends, of a read the latest write end.
 fn latest_end(home: Home, row: EndedRow) -> u64
-    ensures { result ≡ bar home (plain row) }
+    ensures { result ≡ bar home row }
 {
     if row.writes {
         return home.read_end.max(home.write_end);
@@ -43,17 +42,17 @@ fn latest_end(home: Home, row: EndedRow) -> u64
 
 // The home after the epoch is judged: a write sets value and write end, a read raises the read end.
 pub fn judged_home(home: Home, row: EndedRow) -> Home
-    ensures { result ≡ judged_home home (plain row) }
+    ensures { result ≡ judged_home home row }
 {
     if row.writes {
         return Home {
             value: row.last,
-            write_end: row.span.end,
+            write_end: row.span.end(),
             ..home
         };
     }
     Home {
-        read_end: home.read_end.max(row.span.end),
+        read_end: home.read_end.max(row.span.end()),
         ..home
     }
 }

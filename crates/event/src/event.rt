@@ -1,6 +1,6 @@
 // What a line of a trace can say.
 
-// One call of a trace, with the numbers that it takes.
+// One call of a trace, with the numbers that it takes: of classes and kinds too, since a text may have any number there.
 #[derive(Clone, Copy)]
 pub enum Event {
     Preset {
@@ -53,7 +53,7 @@ pub enum EventKind {
 }
 
 // The five numbers that follow the word, 0 where the event has no such number.
-#[derive(Clone, Copy, PartialEq, Eq)]
+#[derive(Clone, Copy, PartialEq, Eq, Default)]
 pub struct Row {
     pub thread: u64,
     pub what: u64,

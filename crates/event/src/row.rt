@@ -19,28 +19,12 @@ impl Row {
     }
 }
 
-impl Event {
-    // The kind of the event.
-    pub fn kind(self) -> EventKind
-        ensures { result ≡ kind_of self }
-    {
-        match self {
-            Event::Preset { .. } => EventKind::Preset,
-            Event::Commit { .. } => EventKind::Commit,
-            Event::Perform { .. } => EventKind::Perform,
-            Event::Advance { .. } => EventKind::Advance,
-            Event::Begin { .. } => EventKind::Begin,
-            Event::End { .. } => EventKind::End,
-            Event::Settle => EventKind::Settle,
-            Event::Close => EventKind::Close,
-        }
-    }
+// The numbers of an event's line, 0 where the event takes none.
+impl From<Event> for Row {
+    ghost from_gives = { λ event row. row ≡ row_of event };
 
-    // The numbers of the event's line, 0 where the event takes none.
-    pub fn row(self) -> Row
-        ensures { result ≡ row_of self }
-    {
-        match self {
+    fn from(event: Event) -> Row {
+        match event {
             Event::Preset { place, value } => Row::new(0, 0, place, value, 0),
             Event::Commit {
                 thread,
@@ -67,8 +51,25 @@ impl Event {
                 value,
                 time,
             } => Row::new(thread, 0, place, value, time),
-            Event::Settle => Row::new(0, 0, 0, 0, 0),
-            Event::Close => Row::new(0, 0, 0, 0, 0),
+            Event::Settle | Event::Close => Row::new(0, 0, 0, 0, 0),
+        }
+    }
+}
+
+impl Event {
+    // The kind of the event.
+    pub fn kind(self) -> EventKind
+        ensures { result ≡ kind_of self }
+    {
+        match self {
+            Event::Preset { .. } => EventKind::Preset,
+            Event::Commit { .. } => EventKind::Commit,
+            Event::Perform { .. } => EventKind::Perform,
+            Event::Advance { .. } => EventKind::Advance,
+            Event::Begin { .. } => EventKind::Begin,
+            Event::End { .. } => EventKind::End,
+            Event::Settle => EventKind::Settle,
+            Event::Close => EventKind::Close,
         }
     }
 
@@ -116,11 +117,12 @@ impl Event {
     }
 
     // The event of a kind and a row; none where a number that the event does not take is not 0.
+    // A `TryFrom` of the pair would be no plainer: it has no name for what it takes, and one error alone.
     pub fn from_row(kind: EventKind, row: Row) -> Option<Event>
         ensures { result ≡ event_of kind row }
     {
         let event = Event::taking(kind, row);
-        if event.row() == row {
+        if Row::from(event) == row {
             Some(event)
         } else {
             None

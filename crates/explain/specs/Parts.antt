@@ -77,7 +77,7 @@ end_in (Some e) = end_of e.line e.event
 -- The begin of the epoch that ends there: the last one before it, by its thread and on its place.
 abbrev pub begin_before : Reading → Option End → Option Begin
 begin_before r None = None
-begin_before r (Some e) = begin_in (latest (wanted.BeginOf e.thread e.place e.line) None r)
+begin_before r (Some e) = begin_in (latest (wanted.BeginOf e.thread e.place e.line) r)
 
 -- The epoch of a notice, which is that of end number n.
 abbrev pub epoch_in : Reading → ℕ → Epoch

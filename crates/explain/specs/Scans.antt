@@ -1,12 +1,18 @@
 -- How an event is found in what a text tells. Assumes nothing.
-use Rattle.std.specs.Prelude.{ℕ, ◌-◌, Bool, true, false, cond, Some, None, Option, ◌==◌, nat_lt}
+use Rattle.std.specs.Prelude.{ℕ, Bool, true, false, cond, List, [], ◌∷◌, Some, None, Option, ◌==◌, nat_lt, filter, slice_get}
+use Rattle.std.specs.List.{last_or}
 use Rattle.event.specs.declared.event.Event.{Event}
 use Rattle.event.specs.declared.event.Event.TheVariants as says
 use Rattle.setup.specs.declared.setup.Setup.{Setup}
 use Rattle.text.specs.declared.reader.Entry.{Entry}
-use Rattle.text.specs.Texts.{Reading, done, fault, sets, tells}
+use Rattle.text.specs.Texts.{Reading, done, fault, sets, tells, reading}
+use Rattle.explain.specs.declared.scan.Recording.{Recording}
 use Rattle.explain.specs.declared.wanted.Wanted.{Wanted}
 use Rattle.explain.specs.declared.wanted.Wanted.TheVariants.{OnLine, CommitBy, BeginOf, End}
+
+-- What the text of a recording tells.
+abbrev pub reading_of : Recording → Reading
+reading_of r = reading r.text.now
 
 -- A commit by the thread.
 abbrev pub commits : ℕ → Event → Bool
@@ -48,22 +54,24 @@ meant (CommitBy thread) k e = commits thread e
 meant (BeginOf thread place before) k e = cond (nat_lt k before) (begins thread place e) false
 meant End k e = ends e
 
-abbrev pub entry : ℕ → Event → Entry
-entry k e = record { line = k; event = e }
+-- The events that are told, each with its line.
+abbrev pub entries : Reading → List Entry
+entries done = []
+entries (fault f) = []
+entries (sets s r) = entries r
+entries (tells k e r) = record { line = k; event = e } ∷ entries r
+
+-- The wanted events.
+abbrev pub all_meant : Wanted → Reading → List Entry
+all_meant w r = filter (λ e. meant w e.line e.event) (entries r)
 
 -- The wanted event number n, counted from 0.
 abbrev pub nth : Wanted → ℕ → Reading → Option Entry
-nth w n done = None
-nth w n (fault f) = None
-nth w n (sets s r) = nth w n r
-nth w n (tells k e r) = cond (meant w k e) (cond (n == 0) (Some (entry k e)) (nth w (n - 1) r)) (nth w n r)
+nth w n r = slice_get (all_meant w r) n
 
--- The last wanted event, and `found` where there is none.
-abbrev pub latest : Wanted → Option Entry → Reading → Option Entry
-latest w found done = found
-latest w found (fault f) = found
-latest w found (sets s r) = latest w found r
-latest w found (tells k e r) = cond (meant w k e) (latest w (Some (entry k e)) r) (latest w found r)
+-- The last wanted event.
+abbrev pub latest : Wanted → Reading → Option Entry
+latest w r = last_or None (all_meant w r)
 
 -- What line 2 sets.
 abbrev pub setup_in : Reading → Option Setup

@@ -20,7 +20,7 @@ pub struct Operation {
     pub commit: Option<Commit>,
 }
 
-// Where an epoch began: the line, the kind, the value and the time.
+// Where an epoch began: the line, the kind, the value and the time. The kind is a number, since a text may have any there.
 #[derive(Clone, Copy)]
 pub struct Begin {
     pub line: u64,

@@ -1,8 +1,8 @@
 // Events and the setup, looked up in a text.
-ghost use Rattle.std.specs.Prelude.{◌≡◌, None};
+ghost use Rattle.std.specs.Prelude.{◌≡◌, [], MatchOption};
+ghost use Rattle.std.specs.Iterator.{YieldsFirst, item_count};
 ghost use Rattle.text.specs.Readers.{left};
-ghost use Rattle.text.specs.Texts.{reading};
-ghost use Rattle.explain.specs.Scans.{meant, nth as nth_in, latest as latest_in, setup_in};
+ghost use Rattle.explain.specs.Scans.{reading_of, meant, entries, nth, latest, setup_in};
 
 use crate::wanted::Wanted;
 use event::event::Event;
@@ -31,70 +31,59 @@ impl Wanted {
     }
 }
 
-// The wanted event number `number`, counted from 0, in what is left of a text.
-fn nth_left(reader: &mut Reader<'_>, wanted: Wanted, number: u64) -> Option<Entry>
-    ensures { result ≡ nth_in wanted number (left reader.old) }
-{
-    let mut skip = number;
-    while let Ok(Some(entry)) = reader.next() {
-        if wanted.means(entry) {
-            if skip == 0 {
-                return Some(entry);
-            }
-            skip -= 1;
-        }
+// The events of a text, up to its first fault.
+#[derive(Drop)]
+struct Events<'a>(Reader<'a>);
+
+impl<'a> Iterator for Events<'a> {
+    type Item = Entry;
+
+    ghost next_gives = { YieldsFirst (λ s. entries (left s.0)) };
+
+    ghost remaining = { item_count (λ s. entries (left s.0)) };
+
+    fn next(&mut self) -> Option<Entry> {
+        self.0.next().ok()?
     }
-    None
 }
 
-// The last wanted event in what is left of a text.
-fn latest_left(reader: &mut Reader<'_>, wanted: Wanted) -> Option<Entry>
-    ensures { result ≡ latest_in wanted None (left reader.old) }
-{
-    let mut found = None;
-    while let Ok(Some(entry)) = reader.next() {
-        if wanted.means(entry) {
-            found = Some(entry);
-        }
+// A recording by its text.
+#[derive(Clone, Copy)]
+pub struct Recording<'a> {
+    pub text: &'a [u8],
+}
+
+impl<'a> Recording<'a> {
+    // The events; none where the text has a fault before them.
+    fn events(&self) -> Option<Events<'a>>
+        ensures { MatchOption result (entries (reading_of self.now) ≡ []) (λ s. entries (reading_of self.now) ≡ entries (left s.0)) }
+    {
+        let mut reader = Reader::new(self.text);
+        let _ = reader.setup().ok()?;
+        reader.names().ok()?;
+        Some(Events(reader))
     }
-    found
-}
 
-// The wanted event number `number` of a text, counted from 0.
-pub fn nth(text: &[u8], wanted: Wanted, number: u64) -> Option<Entry>
-    ensures { result ≡ nth_in wanted number (reading text.now) }
-{
-    let mut reader = Reader::new(text);
-    let Ok(_) = reader.setup() else {
-        return None;
-    };
-    let Ok(()) = reader.names() else {
-        return None;
-    };
-    nth_left(&mut reader, wanted, number)
-}
+    // The wanted event number `number`, counted from 0.
+    pub fn nth(&self, wanted: Wanted, number: u64) -> Option<Entry>
+        ensures { result ≡ nth wanted number (reading_of self.now) }
+    {
+        self.events()?
+            .filter(|entry| wanted.means(*entry))
+            .nth(number as usize)
+    }
 
-// The last wanted event of a text.
-pub fn latest(text: &[u8], wanted: Wanted) -> Option<Entry>
-    ensures { result ≡ latest_in wanted None (reading text.now) }
-{
-    let mut reader = Reader::new(text);
-    let Ok(_) = reader.setup() else {
-        return None;
-    };
-    let Ok(()) = reader.names() else {
-        return None;
-    };
-    latest_left(&mut reader, wanted)
-}
+    // The last wanted event.
+    pub fn latest(&self, wanted: Wanted) -> Option<Entry>
+        ensures { result ≡ latest wanted (reading_of self.now) }
+    {
+        self.events()?.filter(|entry| wanted.means(*entry)).last()
+    }
 
-// What line 2 of a text sets.
-pub fn setup_of(text: &[u8]) -> Option<Setup>
-    ensures { result ≡ setup_in (reading text.now) }
-{
-    let mut reader = Reader::new(text);
-    match reader.setup() {
-        Ok(setup) => Some(setup),
-        Err(_) => None,
+    // What line 2 sets.
+    pub fn setup(&self) -> Option<Setup>
+        ensures { result ≡ setup_in (reading_of self.now) }
+    {
+        Reader::new(self.text).setup().ok()
     }
 }

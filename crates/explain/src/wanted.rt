@@ -1,6 +1,6 @@
 // The events that are looked for in a text.
 
-// Which events are meant.
+// Which events are meant. An enum and no closure, since the definition of an explanation says by it what is looked up.
 #[derive(Clone, Copy)]
 pub enum Wanted {
     // The one on a line.

@@ -1,13 +1,13 @@
 -- What a field must be to write a number, and the field that a number is written as. Assumes nothing.
-use Rattle.std.proofs.Common.{◌≡◌, ℕ, ◌+◌, ◌/◌, ◌^◌, ◌<◌, ◌≤◌, true, false, not, ◌&&◌, ltb, List, [], ◌∷◌, length, get_or, Some, None, Ok, Err, IsUtf8, decimal, Result, sym, refl, ap, ◌∙◌, subst, inl, inr, arith, length-append, rules}
+use Rattle.std.proofs.Common.{◌≡◌, ℕ, ◌^◌, ◌<◌, ◌≤◌, true, false, not, ◌&&◌, ltb, List, [], ◌∷◌, length, get_or, Some, None, Ok, Err, IsUtf8, decimal, Option, Result, MatchOption, sym, refl, ap, ◌∙◌, subst, inl, inr, arith, rules}
 use Rattle.std.specs.Str.Parse.{ParsesUnsigned}
-use Rattle.std.specs.Result.{result_ok}
 use Rattle.std.specs.Str.Iter.{LacksByte}
 use Rattle.std.specs.Str.{all_ascii_digits}
 use Rattle.std.proofs.lemmas.Bool.{cond-true, cond-false, cases_Bool, and_parts, and_from, ltb-true, lt-ltb, not-true, not_from_false, eqb-false, ne_eqb, cases_lt}
-use Rattle.std.proofs.lemmas.Str.Parse.{IsNumeralModel, numerals_by_fold, parse_plain, digit_at, not_in_digits}
-use Rattle.std.proofs.lemmas.Fmt.{digits_decimal, digits_value-decimal, decimal_nonempty, decimal_digit, first_decimal, decimal-digits_value, decimal_step, length-decimal-le, IsAscii-from_digits}
+use Rattle.std.proofs.lemmas.Str.Parse.{IsNumeralModel, numerals_by_fold, parse_plain, not_in_digits}
+use Rattle.std.proofs.lemmas.Fmt.{digits_decimal, digits_value-decimal, decimal_nonempty, decimal_digit, first_decimal, decimal-digits_value, length-decimal-le, IsAscii-from_digits}
 use Rattle.std.proofs.lemmas.Str.{IsUtf8-from_ascii}
+use Rattle.fields.specs.Parses.{ParsesNone}
 use Rattle.fields.specs.Numbers.{onward, padded, numeral, number}
 
 own : IsNumeralModel (λ ds. all_ascii_digits ds ≡ true) (onward 0)
@@ -52,19 +52,15 @@ plain_from_number bs n e =
 pub utf8_from_plain : (bs : List ℕ) → Plain bs → IsUtf8 bs
 utf8_from_plain bs p = IsUtf8-from_ascii bs (IsAscii-from_digits bs (own.to bs p.digits))
 
--- what `parse` answers, where nothing but digits can stand in front
-pub number_from_parse : {E : Type 0} (bs : List ℕ) (r : Result ℕ E) → ParsesUnsigned 64 10 bs r → (get_or bs 0 0 ≡ 43 → ⊥) → padded bs ≡ false → result_ok r ≡ number bs
-number_from_parse {E = E} bs (Ok x) h sign bare =
-    let p = parse_plain own {E = E} 64 bs (Ok x) h sign in
-    ap (λ n. Some n) p.1 ∙ sym (number_from_plain bs (record { some = p.0.1; digits = p.0.0; bare = bare; small = p.0.2 }))
-number_from_parse {E = E} bs (Err e) h sign bare =
-    let p = parse_plain own {E = E} 64 bs (Err e) h sign in
-    sym (number_none bs (λ q. p (q.digits, q.some, q.small)))
-
--- a plus sign in front is no digit
-pub number_signed : (bs : List ℕ) → get_or bs 0 0 ≡ 43 → number bs ≡ None
-number_signed [] e = refl
-number_signed (c ∷ cs) e = number_none (c ∷ cs) (λ p. absurd (omega (arith, digit_at (c ∷ cs) 0 (own.to (c ∷ cs) p.digits) (omega (arith, p.some)))))
+-- what a field is parsed as, where nothing but digits can stand in front
+pub number_parsed : {E : Type 0} (Why Also : List ℕ → Result ℕ E → Type 0) (bs : List ℕ) (r : Option ℕ) → MatchOption r (ParsesNone {E = E} (λ s x. ParsesUnsigned 64 10 s x × Why s x × Also s x) bs) (λ n. ParsesUnsigned {E = E} 64 10 bs (Ok n) × Why bs (Ok n) × Also bs (Ok n)) → (get_or bs 0 0 ≡ 43 → ⊥) → padded bs ≡ false → r ≡ number bs
+number_parsed {E = E} Why Also bs (Some n) h sign bare =
+    let p = parse_plain own {E = E} 64 bs (Ok n) h.0 sign in
+    ap (λ m. Some m) p.1 ∙ sym (number_from_plain bs (record { some = p.0.1; digits = p.0.0; bare = bare; small = p.0.2 }))
+number_parsed {E = E} Why Also bs None h sign bare =
+    sym (number_none bs (λ q.
+    let refused = h (utf8_from_plain bs q) in
+    parse_plain own {E = E} 64 bs (Err refused.0) refused.1.0 sign (q.digits, q.some, q.small)))
 
 padded_none : (bs : List ℕ) → (get_or bs 0 0 ≡ 48 → length bs ≡ 1) → padded bs ≡ false
 padded_none [] h = refl
@@ -105,10 +101,6 @@ decimal_number bs n e =
 -- a written number has no byte but digits
 pub lacks_in_decimal : (m n : ℕ) → m < 48 → n < 2 ^ 64 → LacksByte m (decimal n)
 lacks_in_decimal m n low small = not_in_digits own (decimal n) m (digits_decimal own n small) (λ h. absurd (omega (arith, h.0)))
-
--- one digit more
-pub length_decimal_step : (n : ℕ) → 10 ≤ n → n < 2 ^ 64 → length (decimal n) ≡ length (decimal (n / 10)) + 1
-length_decimal_step n h small = ap length (decimal_step n h small) ∙ length-append (decimal (n / 10)) _
 
 -- a number of 64 bits has at most twenty digits
 pub length_decimal : (n : ℕ) → n < 2 ^ 64 → length (decimal n) ≤ 20

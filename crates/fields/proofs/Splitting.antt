@@ -1,63 +1,39 @@
--- A text and its parts between the bytes m: the parts put together again are the text. Assumes nothing.
-use Rattle.std.proofs.Common.{◌≡◌, ℕ, ◌+◌, ◌-◌, ◌<◌, eqb, List, [], ◌∷◌, ◌++◌, length, get_or, take, drop, sym, refl, ap, ◌∙◌, subst, add-one, arith, take-append-drop, length-take-le, drop-cons, get_or-take, rules}
+-- A text and its parts between the bytes m. Assumes nothing.
+use Rattle.std.proofs.Common.{◌≡◌, ℕ, ◌+◌, ◌<◌, Bool, true, false, cond, ltb, List, [], ◌∷◌, ◌++◌, length, take, drop, Some, None, refl, ap, ◌∙◌, true≢false, arith}
+use Rattle.std.specs.Prelude.{◌==◌}
+use Rattle.std.specs.List.{position, position_or_len, All}
 use Rattle.std.specs.Str.Iter.{LacksByte}
-use Rattle.std.specs.List.{join_with_byte, between}
-use Rattle.std.proofs.lemmas.Slice.{between_to_end}
-use Rattle.std.proofs.lemmas.Bool.{cond-true, cond-false, cond_both, eq-eqb, eqb-true, ne_eqb}
-use Rattle.fields.specs.Splits.{onto, split}
+use Rattle.std.proofs.lemmas.Bool.{eq-eqb, ne_eqb, ltb-false}
+use Rattle.std.proofs.lemmas.List.Elements.{All-from_get_or}
+use Rattle.std.proofs.lemmas.List.Quantifiers.{position-Some}
+use Rattle.std.proofs.lemmas.List.Sums.{position_or_len_is, fails_before_first}
+use Rattle.std.proofs.lemmas.List.Splits.{slice_split_at, slice_split_first, slice_split_none, length-slice_split}
+use Rattle.fields.specs.Splits.{split}
 
-cut_at : (m : ℕ) (s : List ℕ) (i : ℕ) → i < length s → get_or s i 0 ≡ m → s ≡ take i s ++ (m ∷ drop (i + 1) s)
-cut_at m s i h e = sym (take-append-drop i s) ∙ ap (λ t. take i s ++ t) (drop-cons s i 0 h ∙ (λ k. e k ∷ drop (sym (add-one i) k) s))
-
--- a text cut at its first m, which is at i, by two slices
-pub cut_parts : (m : ℕ) (s : List ℕ) (i : ℕ) → i < length s → get_or s i 0 ≡ m → ((k : ℕ) → k < i → get_or s k 0 ≡ m → ⊥) → (s ≡ take (i - 0) s ++ (m ∷ between (i + 1) (length s) s)) × LacksByte m (take (i - 0) s)
-cut_parts m s i h e before =
-    let z : i - 0 ≡ i = omega arith in
-    let whole : s ≡ take i s ++ (m ∷ between (i + 1) (length s) s) = cut_at m s i h e ∙ ap (λ t. take i s ++ (m ∷ t)) (sym (between_to_end s (i + 1) (length s) (omega arith))) in
-    let lacks : LacksByte m (take i s) = λ k lt at. let small : k < i = omega (arith, length-take-le i s (omega arith)) in before k small (sym (get_or-take i s k 0 small) ∙ at) in
-    (subst (λ n. s ≡ take n s ++ (m ∷ between (i + 1) (length s) s)) (sym z) whole, subst (λ n. LacksByte m (take n s)) (sym z) lacks)
-
-lacks_rest : (m c : ℕ) (cs : List ℕ) → LacksByte m (c ∷ cs) → LacksByte m cs
-lacks_rest m c cs h k lt e = h (k + 1) (omega arith) (search rules)
+all_from_lacks : (m : ℕ) (f : List ℕ) → LacksByte m f → All (λ b. (b == m) ≡ false) f
+all_from_lacks m f h = All-from_get_or (λ b. (b == m) ≡ false) f 0 (λ k lt. ne_eqb _ m (h k lt))
 
 -- what stands before the first m is the first part
 pub split_front : (m : ℕ) (f s : List ℕ) → LacksByte m f → split m (f ++ (m ∷ s)) ≡ f ∷ split m s
-split_front m [] s h = cond-true _ _ _ (eq-eqb m m refl)
-split_front m (c ∷ cs) s h =
-    cond-false _ _ _ (ne_eqb c m (λ e. h 0 (omega arith) e)) ∙ ap (onto c) (split_front m cs s (lacks_rest m c cs h))
+split_front m f s h = slice_split_at (λ b. b == m) f m s (all_from_lacks m f h) (eq-eqb m m refl)
 
 pub split_last : (m : ℕ) (f : List ℕ) → LacksByte m f → split m f ≡ f ∷ []
-split_last m [] h = refl
-split_last m (c ∷ cs) h =
-    cond-false _ _ _ (ne_eqb c m (λ e. h 0 (omega arith) e)) ∙ ap (onto c) (split_last m cs (lacks_rest m c cs h))
-
-rejoined_onto : (m c : ℕ) (fs : List (List ℕ)) → join_with_byte m (onto c fs) ≡ c ∷ join_with_byte m fs
-rejoined_onto m c [] = refl
-rejoined_onto m c (f ∷ []) = refl
-rejoined_onto m c (f ∷ g ∷ fs) = refl
-
-rejoined_next : (m : ℕ) (fs : List (List ℕ)) → 0 < length fs → join_with_byte m ([] ∷ fs) ≡ m ∷ join_with_byte m fs
-rejoined_next m [] some = absurd (omega arith)
-rejoined_next m (f ∷ fs) some = refl
-
-onto_some : (c : ℕ) (fs : List (List ℕ)) → 0 < length (onto c fs)
-onto_some c [] = omega arith
-onto_some c (f ∷ fs) = omega arith
+split_last m f h = slice_split_none (λ b. b == m) f (all_from_lacks m f h)
 
 pub split_some : (m : ℕ) (s : List ℕ) → 0 < length (split m s)
-split_some m [] = omega arith
-split_some m (c ∷ cs) = cond_both (eqb c m) ([] ∷ split m cs) (onto c (split m cs)) (λ fs. 0 < length fs) (λ e. omega arith) (λ e. onto_some c (split m cs))
+split_some m s = omega (arith, length-slice_split (λ b. b == m) s)
 
--- a text is its parts with m between each two
-pub rejoined_split : (m : ℕ) (s : List ℕ) → join_with_byte m (split m s) ≡ s
-rejoined_split m [] = refl
-rejoined_split m (c ∷ cs) =
-    cond_both (eqb c m) ([] ∷ split m cs) (onto c (split m cs)) (λ fs. join_with_byte m fs ≡ c ∷ cs)
-    (λ e. rejoined_next m (split m cs) (split_some m cs) ∙ (λ i. sym (eqb-true c m e) i ∷ rejoined_split m cs i))
-    (λ e. rejoined_onto m c (split m cs) ∙ ap (λ t. c ∷ t) (rejoined_split m cs))
+-- a text whose first m is at i
+pub split_at : (m : ℕ) (s : List ℕ) (i : ℕ) → position (λ b. b == m) s ≡ Some i → split m s ≡ take i s ∷ split m (drop (i + 1) s)
+split_at m s i h =
+    let at = position-Some (λ b. b == m) s i 0 h in
+    let same : position_or_len (λ b. b == m) s ≡ i = position_or_len_is (λ b. b == m) s i 0 (omega (arith, at.0)) at.2 (λ _. at.1) in
+    slice_split_first (λ b. b == m) s 0 (omega (arith, same, at.0)) ∙ ap (λ k. take k s ∷ split m (drop (k + 1) s)) same
 
--- the parts of a text whose first m is at i
-pub split_at : (m : ℕ) (s : List ℕ) (i : ℕ) → i < length s → get_or s i 0 ≡ m → ((k : ℕ) → k < i → get_or s k 0 ≡ m → ⊥) → split m s ≡ take (i - 0) s ∷ split m (between (i + 1) (length s) s)
-split_at m s i h e before =
-    let p = cut_parts m s i h e before in
-    ap (split m) p.0 ∙ split_front m (take (i - 0) s) (between (i + 1) (length s) s) p.1
+-- a text without m
+pub split_without : (m : ℕ) (s : List ℕ) → position (λ b. b == m) s ≡ None → split m s ≡ s ∷ []
+split_without m s h = slice_split_none (λ b. b == m) s (by (ltb (position_or_len (λ b. b == m) s) (length s)) refl h)
+  where
+    by : (t : Bool) → ltb (position_or_len (λ b. b == m) s) (length s) ≡ t → cond t (Some (position_or_len (λ b. b == m) s)) None ≡ None → All (λ b. (b == m) ≡ false) s
+    by true e k = absurd (true≢false (ap (λ o. elim o [ None ↦ false | Some y ↦ true ]) k))
+    by false e k = λ j d l. fails_before_first (λ b. b == m) s j d (omega (arith, ltb-false _ _ e, l))

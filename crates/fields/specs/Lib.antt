@@ -1,3 +1,4 @@
+pub mod Parses
 pub mod Splits
 pub mod Numbers
 pub mod Words

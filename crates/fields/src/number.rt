@@ -2,6 +2,8 @@
 ghost use Rattle.std.specs.Prelude.{◌≡◌, ◌||◌, ◌==◌, slice_index};
 ghost use Rattle.fields.specs.Numbers.{number, padded};
 
+use crate::parse::parse_field;
+
 // Whether a plus sign, or a zero before another byte, stands in front.
 fn has_prefix(field: &[u8]) -> bool
     ensures { result ≡ (slice_index field.now 0 == 43 || padded field.now) }
@@ -16,8 +18,5 @@ pub fn read_number(field: &[u8]) -> Option<u64>
     if has_prefix(field) {
         return None;
     }
-    match std::str::from_utf8(field) {
-        Ok(text) => text.parse::<u64>().ok(),
-        Err(_) => None,
-    }
+    parse_field(field)
 }

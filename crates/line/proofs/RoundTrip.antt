@@ -15,7 +15,8 @@ use Rattle.line.specs.Lines.{fields_of, line_of, row, Fit, ReadsBack, OneLine}
 use Rattle.fields.proofs.Stepping.{given_some, then_ok, some_from_ok_or}
 use Rattle.event.proofs.Wording.{kind_word, word_kind, spaceless_word}
 use Rattle.fields.proofs.Numerals.{number_decimal, decimal_number, lacks_in_decimal}
-use Rattle.fields.proofs.Splitting.{split_front, split_last, rejoined_split}
+use Rattle.std.proofs.lemmas.List.Splits.{join_with_byte-slice_split}
+use Rattle.fields.proofs.Splitting.{split_front, split_last}
 use Rattle.event.proofs.Rows.{event_itself, parts_from_event}
 
 spaceless_decimal : (n : ℕ) → n < 2 ^ 64 → LacksByte 32 (decimal n)
@@ -101,4 +102,4 @@ one_line l e h =
     let parts = parts_from_event n r e (some_from_ok_or _ Unused e q.1.1) in
     let fields : list_of f ≡ fields_of n r = λ i. word i ∷ says.thread.0 i ∷ says.what.0 i ∷ says.place.0 i ∷ says.value.0 i ∷ says.time.0 i ∷ [] in
     let whole : fields_of (kind_of e) (row_of e) ≡ split 32 l = (λ i. fields_of (parts.0 i) (parts.1 i)) ∙ sym fields ∙ sym (list_from_six (split 32 l) f (some_from_ok_or _ FieldCount f s.1.0)) in
-    (ap (join_with_byte 32) whole ∙ rejoined_split 32 l, subst Fit (sym parts.1) (says.thread.1, says.what.1, says.place.1, says.value.1, says.time.1))
+    (ap (join_with_byte 32) whole ∙ join_with_byte-slice_split 32 l, subst Fit (sym parts.1) (says.thread.1, says.what.1, says.place.1, says.value.1, says.time.1))

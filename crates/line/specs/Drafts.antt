@@ -1,13 +1,8 @@
--- What a line in the making holds, and what a space holds after a line was written to it. Assumes nothing.
-use Rattle.std.specs.Prelude.{ℕ, cond, List, [], ◌∷◌, ◌++◌, length, take, drop, Ok, Err, Result, nat_le}
-use Rattle.line.specs.declared.draft.Draft.{Draft}
+-- The line that is written, and what a space holds after a line was written to it. Assumes nothing.
+use Rattle.std.specs.Prelude.{ℕ, cond, List, [], ◌∷◌, ◌++◌, length, drop, Ok, Err, Result, nat_le}
 use Rattle.event.specs.declared.event.Event.{Event}
 use Rattle.line.specs.declared.fault.TooLong.{TooLong}
 use Rattle.line.specs.Lines.{line_of}
-
--- The bytes of a line in the making.
-abbrev pub text : Draft → List ℕ
-text d = take d.used d.bytes
 
 -- The line of an event with its line feed.
 abbrev pub written : Event → List ℕ

@@ -9,21 +9,12 @@ impl Garbled {
     pub fn code(self) -> u64
         ensures { result ≡ code_of self }
     {
-        match self {
-            Garbled::TextLength => 41,
-            Garbled::LineLength => 42,
-            Garbled::Heading => 43,
-            Garbled::FieldCount => 44,
-            Garbled::Unknown => 45,
-            Garbled::Number => 46,
-            Garbled::Unused => 47,
-            Garbled::End => 48,
-        }
+        self as u64
     }
 }
 
 impl TooLong {
-    // The number of the refusal.
+    // The number of the refusal, as a watch has it. The text layer does not know the watch.
     pub fn code(self) -> u64
         ensures { result ≡ refusal_of self }
     {

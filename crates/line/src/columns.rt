@@ -17,6 +17,8 @@ pub struct Columns<'a> {
 }
 
 // The six fields of a line; none if there are fewer or more.
+// One function for each count of fields: one over an array of N slices, filled in a loop, gets no proof.
+#[tactic(auto, using(crate::proofs::Counting::six_more, fields::proofs::Splitting::split_some))]
 pub fn split_columns(line: &[u8]) -> Option<Columns<'_>>
     ensures { MatchOption result (six (split 32 line.now) ≡ None) (λ f. six (split 32 line.now) ≡ Some (texts f)) }
 {

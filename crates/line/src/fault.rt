@@ -4,21 +4,21 @@
 #[derive(Clone, Copy, PartialEq, Eq, Debug)]
 pub enum Garbled {
     // The text is too long.
-    TextLength,
+    TextLength = 41,
     // A line is too long, or has no line feed.
-    LineLength,
+    LineLength = 42,
     // A line that is said in advance differs.
-    Heading,
+    Heading = 43,
     // A line has too few or too many fields.
-    FieldCount,
+    FieldCount = 44,
     // No event and no rule has that name.
-    Unknown,
+    Unknown = 45,
     // A field is no number of 64 bits.
-    Number,
+    Number = 46,
     // A number stands where the event takes none.
-    Unused,
+    Unused = 47,
     // The text ends before its close, or goes on after it.
-    End,
+    End = 48,
 }
 
 // A line is longer than the space that was given for it.

@@ -3,7 +3,6 @@
 
 pub mod code;
 mod columns;
-mod draft;
 pub mod fault;
 pub mod read;
 pub mod write;

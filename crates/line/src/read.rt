@@ -1,5 +1,6 @@
 // A line read as an event.
-ghost use Rattle.std.specs.Prelude.{◌≡◌};
+ghost use Rattle.std.specs.Prelude.{◌≡◌, ℕ, List, Result};
+ghost use Rattle.line.specs.declared.fault.Garbled.{Garbled};
 ghost use Rattle.line.specs.Columns.{texts};
 ghost use Rattle.line.specs.Lines.{read, row, ReadsBack, OneLine};
 
@@ -21,7 +22,26 @@ fn read_row(columns: Columns<'_>) -> Option<Row>
     })
 }
 
+// What a line of a trace can be read as.
+pub trait FromLine: Sized {
+    // What each line is read as, or its first fault.
+    ghost reads: { List ℕ → Result Self Garbled };
+
+    // Reads a line, which is given without its line feed.
+    fn from_line(line: &[u8]) -> Result<Self, Garbled>
+        ensures { result ≡ reads line.now };
+}
+
+impl FromLine for Event {
+    ghost reads = { read };
+
+    fn from_line(line: &[u8]) -> Result<Event, Garbled> {
+        read_line(line)
+    }
+}
+
 // The event of a line, which is given without its line feed, or the first fault of the line.
+#[tactic(auto, using(crate::proofs::RoundTrip::reads_back, crate::proofs::RoundTrip::one_line))]
 pub fn read_line(line: &[u8]) -> Result<Event, Garbled>
     ensures answer { result ≡ read line.now }
     ensures back { ReadsBack }

@@ -31,19 +31,23 @@ fn a_line_that_is_too_long_leaves_the_space(rt: HostRuntime) {
     assert!(rt; space == [7u8; 18]);
 }
 
-// The fault of a line, if it has one.
-fn fault_of(line: &[u8]) -> Option<Garbled> {
-    match read_line(line) {
-        Ok(_) => None,
-        Err(fault) => Some(fault),
-    }
-}
-
 #[test]
 fn faults_are_found_in_order(rt: HostRuntime) {
-    assert_eq!(rt; fault_of(b"advance 1 0 0 0 18446744073709551615"), None);
-    assert_eq!(rt; fault_of(b"settle 0 0 0 00"), Some(Garbled::FieldCount));
-    assert_eq!(rt; fault_of(b"report 0 0 0 0 00"), Some(Garbled::Unknown));
-    assert_eq!(rt; fault_of(b"settle 1 0 0 0 00"), Some(Garbled::Number));
-    assert_eq!(rt; fault_of(b"settle 1 0 0 0 0"), Some(Garbled::Unused));
+    assert_eq!(rt;
+        read_line(b"advance 1 0 0 0 18446744073709551615").err(),
+        None
+    );
+    assert_eq!(rt;
+        read_line(b"settle 0 0 0 00").err(),
+        Some(Garbled::FieldCount)
+    );
+    assert_eq!(rt;
+        read_line(b"report 0 0 0 0 00").err(),
+        Some(Garbled::Unknown)
+    );
+    assert_eq!(rt;
+        read_line(b"settle 1 0 0 0 00").err(),
+        Some(Garbled::Number)
+    );
+    assert_eq!(rt; read_line(b"settle 1 0 0 0 0").err(), Some(Garbled::Unused));
 }

@@ -1,8 +1,6 @@
 // The program: a trace on standard input, its verdict on standard output, and what it means on standard error.
 #![tactic(auto)]
 
-ghost use Rattle.std.specs.Prelude.{◌≤◌, length, IfOk};
-
 use anyhow::anyhow;
 use explain::explain::explain;
 use sentence::shown::Sentence;
@@ -31,53 +29,38 @@ is 0 for every verdict. docs/trace-format.md has the format of a trace, and
 examples/ has traces to start from.
 ";
 
-// The next bytes of standard input; none where it is closed.
-fn read_some(rt: &HostRuntime, buffer: &mut [u8]) -> io::Result<usize>
-    ensures { IfOk result (λ n. n ≤ length buffer.old) }
-{
-    match rt.stdin().read(buffer) {
-        Ok(count) => Ok(count),
-        Err(error) => match error.raw_os_error() {
-            Some(NOT_OPEN) => Ok(0),
-            _ => Err(error),
-        },
+// Reads a text to its end. What follows once it is too long is not kept.
+fn read_text<R: Read + Drop>(mut input: R, text: &mut Vec<u8>) -> io::Result<()> {
+    input.by_ref().take(MAX_TEXT as u64 + 1).read_to_end(text)?;
+    if text.len() > MAX_TEXT {
+        io::copy(&mut input, &mut io::sink())?;
     }
+    Ok(())
 }
 
-// Standard input, read to its end. What follows once the text is too long is not kept.
+// Standard input, read to its end; nothing where it is closed.
 fn read_input(rt: &HostRuntime) -> io::Result<Vec<u8>> {
     let mut text = Vec::new(rt.alloc());
-    let mut buffer = [0u8; 4096];
-    for _ in 0..u64::MAX {
-        let count = read_some(rt, &mut buffer)?;
-        if count == 0 {
-            break;
-        }
-        if text.len() <= MAX_TEXT {
-            text.extend_from_slice(&buffer[0..count])?;
-        }
+    match read_text(rt.stdin(), &mut text) {
+        Err(error) if error.raw_os_error() != Some(NOT_OPEN) => Err(error),
+        _ => Ok(text),
     }
-    Ok(text)
 }
 
 // What the arguments ask for.
 enum Request {
     Judge,
     Help,
-    Unknown,
 }
 
-fn requested(rt: &HostRuntime) -> io::Result<Request> {
-    let mut args = env::args(rt)?;
-    let _program = args.next();
-    let Some(argument) = args.next() else {
+fn requested(rt: &HostRuntime) -> anyhow::Result<Request> {
+    let mut given = env::args(rt)?.skip(1);
+    let Some(argument) = given.next() else {
         return Ok(Request::Judge);
     };
-    let asks = argument.as_str() == "--help" || argument.as_str() == "-h";
-    if asks {
-        Ok(Request::Help)
-    } else {
-        Ok(Request::Unknown)
+    match argument.as_str() {
+        "--help" | "-h" => Ok(Request::Help),
+        _ => Err(anyhow!("unknown argument: memwatch --help says how to use it")),
     }
 }
 
@@ -92,17 +75,10 @@ fn judge(rt: &HostRuntime) -> anyhow::Result<()> {
     Ok(())
 }
 
-fn run(rt: &HostRuntime) -> anyhow::Result<()> {
-    match requested(rt)? {
-        Request::Judge => judge(rt),
-        Request::Help => {
-            print!(rt; "{HELP}")?;
-            Ok(())
-        }
-        Request::Unknown => Err(anyhow!("unknown argument: memwatch --help says how to use it")),
-    }
-}
-
 fn main(rt: HostRuntime) -> anyhow::Result<()> {
-    run(&rt)
+    match requested(&rt)? {
+        Request::Judge => judge(&rt)?,
+        Request::Help => print!(rt; "{HELP}")?,
+    }
+    Ok(())
 }

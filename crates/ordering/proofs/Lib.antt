@@ -1,4 +1,2 @@
-pub mod Matrix
-pub mod Names
 pub mod Numbers
 pub mod Tables

@@ -2,6 +2,7 @@
 pub mod number;
 
 // The pairs of operations that a barrier keeps apart: the first stands before it, the second after it.
+// Four flags, since each pair is chosen apart from the others.
 #[derive(Clone, Copy, PartialEq, Eq, Debug)]
 pub struct Mask {
     pub load_load: bool,
@@ -17,3 +18,7 @@ pub enum Class {
     Store,
     Barrier(Mask),
 }
+
+// No class has the number.
+#[derive(Clone, Copy, PartialEq, Eq, Debug)]
+pub struct UnknownClass;

@@ -11,6 +11,10 @@ pub enum NamedRule {
     Rmo,
 }
 
+// No rule has the name. An error of its own, since this crate builds on no other.
+#[derive(Clone, Copy, PartialEq, Eq, Debug)]
+pub struct UnknownName;
+
 // The pairs of a load or store and a later load or store, by the two kinds.
 #[derive(Clone, Copy, PartialEq, Eq, Debug)]
 pub enum Pair {

@@ -1,6 +1,6 @@
 // The numbers of classes, and the names of rules.
-use ordering::class::{Class, Mask};
-use ordering::named::NamedRule;
+use ordering::class::{Class, Mask, UnknownClass};
+use ordering::named::{NamedRule, UnknownName};
 
 #[test]
 fn classes_by_number(rt: HostRuntime) {
@@ -10,11 +10,11 @@ fn classes_by_number(rt: HostRuntime) {
         load_store: false,
         store_store: true,
     };
-    assert_eq!(rt; Class::from_number(0), Some(Class::Load));
-    assert_eq!(rt; Class::from_number(1), Some(Class::Store));
-    assert_eq!(rt; Class::from_number(10), Some(Class::Barrier(stores_apart)));
-    assert_eq!(rt; Class::from_number(18), None);
-    assert_eq!(rt; Class::from_number(u64::MAX), None);
+    assert_eq!(rt; Class::try_from(0), Ok(Class::Load));
+    assert_eq!(rt; Class::try_from(1), Ok(Class::Store));
+    assert_eq!(rt; Class::try_from(10), Ok(Class::Barrier(stores_apart)));
+    assert_eq!(rt; Class::try_from(18), Err(UnknownClass));
+    assert_eq!(rt; Class::try_from(u64::MAX), Err(UnknownClass));
 }
 
 #[test]
@@ -31,19 +31,19 @@ fn numbers_of_classes(rt: HostRuntime) {
         load_store: true,
         store_store: false,
     };
-    assert_eq!(rt; Class::Load.number(), 0);
-    assert_eq!(rt; Class::Store.number(), 1);
-    assert_eq!(rt; Class::Barrier(loads_first).number(), 7);
-    assert_eq!(rt; Class::Barrier(all).number(), 17);
+    assert_eq!(rt; u64::from(Class::Load), 0);
+    assert_eq!(rt; u64::from(Class::Store), 1);
+    assert_eq!(rt; u64::from(Class::Barrier(loads_first)), 7);
+    assert_eq!(rt; u64::from(Class::Barrier(all)), 17);
 }
 
 #[test]
 fn rules_by_name(rt: HostRuntime) {
-    assert_eq!(rt; NamedRule::from_name("sc"), Some(NamedRule::Sc));
-    assert_eq!(rt; NamedRule::from_name("tso"), Some(NamedRule::Tso));
-    assert_eq!(rt; NamedRule::from_name("pso"), Some(NamedRule::Pso));
-    assert_eq!(rt; NamedRule::from_name("rmo"), Some(NamedRule::Rmo));
-    assert_eq!(rt; NamedRule::from_name("TSO"), None);
-    assert_eq!(rt; NamedRule::from_name("ts"), None);
-    assert_eq!(rt; NamedRule::from_name(""), None);
+    assert_eq!(rt; "sc".parse(), Ok(NamedRule::Sc));
+    assert_eq!(rt; "tso".parse(), Ok(NamedRule::Tso));
+    assert_eq!(rt; "pso".parse(), Ok(NamedRule::Pso));
+    assert_eq!(rt; "rmo".parse(), Ok(NamedRule::Rmo));
+    assert_eq!(rt; "TSO".parse::<NamedRule>(), Err(UnknownName));
+    assert_eq!(rt; "ts".parse::<NamedRule>(), Err(UnknownName));
+    assert_eq!(rt; "".parse::<NamedRule>(), Err(UnknownName));
 }

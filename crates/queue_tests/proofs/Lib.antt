@@ -1,1 +1,1 @@
-mod Sorting
+pub mod Sorting

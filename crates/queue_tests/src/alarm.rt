@@ -1,7 +1,5 @@
 // A row of four fields. Its order is that of the fields in turn.
-ghost use Rattle.queue.proofs.Totals.{total, says};
-ghost use Rattle.queue_tests.specs.Orders.{alarm_order};
-ghost use Rattle.queue_tests.specs.Rows.{alarm_le};
+ghost use Rattle.queue_tests.specs.Exact.{alarm_exact};
 
 use queue::TotalOrder;
 
@@ -14,9 +12,5 @@ pub struct Alarm {
 }
 
 impl TotalOrder for Alarm {
-    ghost le = { alarm_le };
-
-    ghost lawful = { total alarm_order };
-
-    ghost says = { says alarm_order };
+    ghost exact = { alarm_exact };
 }

@@ -1,7 +1,5 @@
 // A row of two numbers. Its order is that of the numbers in turn.
-ghost use Rattle.queue_tests.specs.Rows.{pair_le};
-ghost use Rattle.queue.proofs.Totals.{total, says};
-ghost use Rattle.queue_tests.specs.Orders.{pair_order};
+ghost use Rattle.queue_tests.specs.Exact.{pair_exact};
 
 use queue::TotalOrder;
 
@@ -9,9 +7,5 @@ use queue::TotalOrder;
 pub struct Pair(pub u64, pub u64);
 
 impl TotalOrder for Pair {
-    ghost le = { pair_le };
-
-    ghost lawful = { total pair_order };
-
-    ghost says = { says pair_order };
+    ghost exact = { pair_exact };
 }

@@ -1,5 +1,5 @@
 -- How the home judges ended epochs. Neither rules nor operations are spoken of here. Assumes nothing.
-use Rattle.std.specs.Prelude.{ℕ, ◌+◌, max, Bool, true, false, cond, leb, List, [], ◌∷◌, ◌++◌, Some, None, Option, ◌==◌, nat_le, nat_lt, map}
+use Rattle.std.specs.Prelude.{ℕ, ◌+◌, max, Bool, true, false, cond, List, [], ◌∷◌, ◌++◌, Some, None, Option, ◌==◌, nat_le, nat_lt, map}
 use Rattle.std.specs.List.{flat_map}
 use Rattle.queue.specs.Fields.{in_turn, flag_le}
 use Rattle.queue.specs.Order
@@ -14,8 +14,8 @@ use Rattle.semantics.specs.State.{State, home_of}
 -- The order of judging: by begin, then by number. Numbers differ, so the other fields, which make the order total, never decide.
 abbrev pub ended_le : Ended → Ended → Bool
 ended_le x y =
-    in_turn leb x.from y.from (in_turn leb x.number y.number (in_turn leb x.thread y.thread (in_turn flag_le x.writes y.writes
-    (in_turn leb x.place y.place (in_turn leb x.until y.until (in_turn leb x.start y.start (nat_le x.last y.last)))))))
+    in_turn nat_le x.from y.from (in_turn nat_le x.number y.number (in_turn nat_le x.thread y.thread (in_turn flag_le x.writes y.writes
+    (in_turn nat_le x.place y.place (in_turn nat_le x.until y.until (in_turn nat_le x.start y.start (nat_le x.last y.last)))))))
 
 -- A row among the waiting.
 abbrev pub insert : Ended → List Ended → List Ended

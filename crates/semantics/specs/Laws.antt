@@ -1,5 +1,5 @@
 -- The laws of a perform and of an end, each with the conviction where it is broken. Assumes nothing.
-use Rattle.std.specs.Prelude.{ℕ, Bool, false, cond, not, ◌&&◌, ◌||◌, ltb, List, [], ◌∷◌, Some, None, Option, ◌==◌, nat_lt}
+use Rattle.std.specs.Prelude.{ℕ, Bool, false, cond, not, ◌&&◌, ◌||◌, List, [], ◌∷◌, Some, None, Option, ◌==◌, nat_lt}
 use Rattle.std.specs.List.{find, filter}
 use Rattle.std.specs.Option.{is_some}
 use Rattle.ordering.specs.declared.class.Class.{Class}
@@ -26,7 +26,7 @@ by_rule R x y = R (face x.class) (face y.class)
 
 -- The outstanding operations of a thread that stand before the number n in program order.
 abbrev pub earlier : Thread → ℕ → List Operation
-earlier w n = filter (λ o. ltb o.number n) w.pending
+earlier w n = filter (λ o. nat_lt o.number n) w.pending
 
 -- The conviction of an operation against another, where there is one.
 abbrev pub blame : Law → ℕ → ℕ → Option Operation → Option Conviction

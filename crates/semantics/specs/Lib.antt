@@ -1,5 +1,6 @@
 pub mod Lists
 pub mod Limits
+pub mod Kinds
 pub mod Classes
 pub mod Calls
 pub mod Numbers

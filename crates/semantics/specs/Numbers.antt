@@ -33,20 +33,8 @@ refusal_number NoSpace = 14
 
 -- The limit that a refusal names, and 0 where it names none.
 abbrev pub limit_in : Refusal → ℕ
-limit_in ThreadCount = 0
-limit_in Convicted = 0
-limit_in Closed = 0
-limit_in UnknownThread = 0
-limit_in UnknownClass = 0
-limit_in UnknownPlace = 0
-limit_in PastTime = 0
-limit_in NotOutstanding = 0
-limit_in AlreadyBegun = 0
-limit_in NotOpen = 0
-limit_in NotOwed = 0
 limit_in (Over l) = limit_number l
-limit_in Unfinished = 0
-limit_in NoSpace = 0
+limit_in r = 0
 
 abbrev pub law_number : Law → ℕ
 law_number SamePlace = 21

@@ -3,5 +3,6 @@
 
 pub mod class;
 pub mod counts;
+pub mod kind;
 pub mod row;
 pub mod verdict;

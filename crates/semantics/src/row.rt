@@ -2,7 +2,7 @@
 use crate::class::OpClass;
 
 // An operation that has committed and not performed.
-#[derive(Clone, Copy, PartialEq, Eq, Debug)]
+#[derive(Clone, Copy, PartialEq, Eq, Debug, Default)]
 pub struct Operation {
     pub number: u64,
     pub class: OpClass,
@@ -11,7 +11,8 @@ pub struct Operation {
 }
 
 // An open epoch: it began at `from` with the value `start`; `copy` is its value now, and `used` the time of its last use.
-#[derive(Clone, Copy, PartialEq, Eq, Debug)]
+// Of its kind the rows keep `writes`, the one question that laws and judging ask of it.
+#[derive(Clone, Copy, PartialEq, Eq, Debug, Default)]
 pub struct Epoch {
     pub writes: bool,
     pub place: u64,
@@ -36,7 +37,8 @@ pub struct Ended {
 }
 
 // What the home keeps of a place: its value, the latest end of a judged read and of a judged write, and whether an epoch ever began there.
-#[derive(Clone, Copy, PartialEq, Eq, Debug)]
+// `begun` stands apart from the ends: a preset asks it, and judging does not.
+#[derive(Clone, Copy, PartialEq, Eq, Debug, Default)]
 pub struct Home {
     pub value: u64,
     pub read_end: u64,

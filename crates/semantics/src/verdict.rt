@@ -2,24 +2,24 @@
 
 mod number;
 
-// A bound on what a watch keeps.
+// A bound on what a watch keeps, by its number.
 #[derive(Clone, Copy, PartialEq, Eq, Debug)]
 pub enum Limit {
     // Outstanding operations of a thread.
-    Outstanding,
+    Outstanding = 1,
     // Commits of a thread.
-    Commits,
+    Commits = 2,
     // Open epochs of a thread.
-    Open,
+    Open = 3,
     // Begins in the watch.
-    Begins,
+    Begins = 4,
     // Owed notices in the watch.
-    Owed,
+    Owed = 5,
     // Waiting notices in the watch.
-    Waiting,
+    Waiting = 6,
 }
 
-// Why a call is refused.
+// Why a call is refused. No words come with it: programs show its number, and `sentence` has the words.
 #[derive(Clone, Copy, PartialEq, Eq, Debug)]
 pub enum Refusal {
     // A watch can't have that many threads.
@@ -52,30 +52,31 @@ pub enum Refusal {
     NoSpace,
 }
 
-// A law of memory that a call can break.
+// A law of memory that a call can break, by its number.
 #[derive(Clone, Copy, PartialEq, Eq, Debug)]
 pub enum Law {
     // A store performs ahead of an earlier load or store of its thread to its place.
-    SamePlace,
+    SamePlace = 21,
     // An operation performs ahead of one that the rule orders before it.
-    Ordered,
+    Ordered = 22,
     // A store has no write epoch, or a load no source.
-    NoLeave,
+    NoLeave = 23,
     // A load received another value than its source's.
-    WrongValue,
+    WrongValue = 24,
     // An epoch ends at or before its last use.
-    EndTooEarly,
+    EndTooEarly = 25,
     // An epoch ends with another value than its copy.
-    WrongEndValue,
+    WrongEndValue = 26,
     // An epoch begins before an end that it has to wait for.
-    Overlap,
+    Overlap = 27,
     // An epoch begins with another value than the home's.
-    WrongBeginValue,
+    WrongBeginValue = 28,
     // An owed notice is dropped.
-    Dropped,
+    Dropped = 29,
 }
 
-// Which law was broken, by which thread, in which operation, place or notice, and against what.
+// Which law was broken, by which thread, in which operation, place or notice, and against what. Two numbers for every law:
+// each law and a verdict's line name both, so a payload for each law would only be taken apart again.
 #[derive(Clone, Copy, PartialEq, Eq, Debug)]
 pub struct Conviction {
     pub law: Law,

@@ -1,9 +1,9 @@
--- The words for limits, for faults of a text, and for what some refusals and laws are about. A bound that they name is the one of its definition.
-use Rattle.std.specs.Prelude.{ℕ, List, ◌++◌, Some, None, codes, Option, decimal}
+-- The words for limits and ranges, for faults of a text, and for what some refusals and laws are about. A bound that they name is the one of its definition.
+use Rattle.std.specs.Prelude.{ℕ, List, [], ◌∷◌, ◌++◌, get_or, Some, None, codes, Option, decimal}
 use Rattle.ordering.specs.declared.class.Class.{Class}
 use Rattle.ordering.specs.declared.class.Class.TheVariants.{Load, Store, Barrier}
 use Rattle.semantics.specs.Classes.{last_class}
-use Rattle.semantics.specs.Limits.{last_kind, most_outstanding, most_commits, most_open, most_begins, most_owed, most_waiting}
+use Rattle.semantics.specs.Limits.{most_threads, last_place, last_kind, most_outstanding, most_commits, most_open, most_begins, most_owed, most_waiting}
 use Rattle.semantics.specs.declared.verdict.Limit.{Limit}
 use Rattle.semantics.specs.declared.verdict.Limit.TheVariants.{Outstanding, Commits, Open, Begins, Owed, Waiting}
 use Rattle.event.specs.declared.event.Event.{Event}
@@ -37,6 +37,18 @@ kinds_text _ = codes "class of operations: they are 0 to " ++ decimal last_class
 abbrev pub begun_text : Option Event → List ℕ
 begun_text (Some (event.Preset p v)) = codes "the preset comes after the first begin on"
 begun_text _ = codes "the thread has an epoch open already on"
+
+-- A number as a word where it is small, else in digits.
+abbrev pub spelled : ℕ → List ℕ
+spelled n = get_or (codes "no" ∷ codes "one" ∷ codes "two" ∷ codes "three" ∷ codes "four" ∷ []) n (decimal n)
+
+-- How many threads a recording has.
+abbrev pub threads_text : List ℕ
+threads_text = codes "one to " ++ spelled most_threads ++ codes " threads"
+
+-- How places are numbered.
+abbrev pub places_text : List ℕ
+places_text = codes "0 to " ++ decimal last_place
 
 -- What a limit bounds.
 abbrev pub limit_text : Limit → List ℕ

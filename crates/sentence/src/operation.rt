@@ -1,28 +1,12 @@
 // Operations and epochs by name.
 use explain::parts::{Epoch, Operation};
 use ordering::class::{Class, Mask};
+use semantics::kind::EpochKind;
 use std::fmt;
 
-// The pairs of a mask, parted by commas.
-fn write_mask<W: fmt::Write>(mask: Mask, f: &mut fmt::Formatter<W>) -> fmt::Result {
-    let mut comma = "";
-    if mask.load_load {
-        write!(f, "load-load")?;
-        comma = ", ";
-    }
-    if mask.store_load {
-        write!(f, "{comma}store-load")?;
-        comma = ", ";
-    }
-    if mask.load_store {
-        write!(f, "{comma}load-store")?;
-        comma = ", ";
-    }
-    if mask.store_store {
-        write!(f, "{comma}store-store")?;
-    }
-    Ok(())
-}
+// A mask that is to be named.
+#[derive(Clone, Copy)]
+struct NamedMask(Mask);
 
 // An operation that is to be named.
 #[derive(Clone, Copy)]
@@ -31,6 +15,32 @@ pub struct NamedOperation(pub Operation);
 // An epoch that is to be named.
 #[derive(Clone, Copy)]
 pub struct NamedEpoch(pub Epoch);
+
+// Writes the pairs of a mask, parted by commas.
+impl fmt::Display for NamedMask {
+    fn fmt<W: fmt::Write>(&self, f: &mut fmt::Formatter<W>) -> fmt::Result {
+        let Mask {
+            load_load,
+            store_load,
+            load_store,
+            store_store,
+        } = self.0;
+        let pairs = [
+            (load_load, "load-load"),
+            (store_load, "store-load"),
+            (load_store, "load-store"),
+            (store_store, "store-store"),
+        ];
+        let mut comma = "";
+        for (ordered, pair) in pairs {
+            if ordered {
+                write!(f, "{comma}{pair}")?;
+                comma = ", ";
+            }
+        }
+        Ok(())
+    }
+}
 
 // Writes an operation by its class, its number and its place.
 impl fmt::Display for NamedOperation {
@@ -43,11 +53,7 @@ impl fmt::Display for NamedOperation {
         match commit.class {
             Class::Load => write!(f, "load number {number} of place {place}"),
             Class::Store => write!(f, "store number {number} to place {place}"),
-            Class::Barrier(mask) => {
-                write!(f, "barrier (")?;
-                write_mask(mask, f)?;
-                write!(f, ") number {number}")
-            }
+            Class::Barrier(mask) => write!(f, "barrier ({}) number {number}", NamedMask(mask)),
         }
     }
 }
@@ -68,7 +74,11 @@ impl fmt::Display for NamedEpoch {
             );
         };
         let first = begin.line;
-        let kind = if begin.kind == 0 { "read" } else { "write" };
+        // The begin of an epoch that ended was taken, so its kind is 0 or 1.
+        let kind = match EpochKind::try_from(begin.kind) {
+            Ok(EpochKind::Read) => "read",
+            _ => "write",
+        };
         write!(
             f,
             "{kind} epoch on place {place} (notice {notice}, lines {first} to {last})"

@@ -1,6 +1,6 @@
 // What limits, faults of a text, and some refusals and laws mean in words.
 ghost use Rattle.std.specs.Prelude.{◌≡◌};
-ghost use Rattle.sentence.specs.Words.{lack_text, kinds_text, begun_text, limit_text, fault_text};
+ghost use Rattle.sentence.specs.Words.{lack_text, kinds_text, begun_text, threads_text, places_text, limit_text, fault_text};
 
 use event::event::Event;
 use explain::parts::Operation;
@@ -40,6 +40,20 @@ pub fn begun_words(call: Option<Event>) -> &'static str
         Some(Event::Preset { .. }) => "the preset comes after the first begin on",
         _ => "the thread has an epoch open already on",
     }
+}
+
+// How many threads a recording has.
+pub fn threads_words() -> &'static str
+    ensures { result.now ≡ threads_text }
+{
+    "one to four threads"
+}
+
+// How places are numbered.
+pub fn places_words() -> &'static str
+    ensures { result.now ≡ places_text }
+{
+    "0 to 511"
 }
 
 // What a limit bounds.

@@ -1,11 +1,19 @@
 -- A rule is read from just the bytes of its name. Assumes nothing.
-use Rattle.std.proofs.Common.{◌≡◌, ℕ, ◌≤◌, true, List, length, Some, refl, arith}
+use Rattle.std.proofs.Common.{◌≡◌, ℕ, ◌≤◌, true, List, length, Some, codes, IsUtf8, refl, arith}
+use lib.Utf8.{encode}
 use Rattle.std.specs.Str.Iter.{LacksByte}
 use Rattle.fields.proofs.Lacking.{without, lacks_from_without}
 use Rattle.fields.proofs.Spelling.{spelled_among}
 use Rattle.setup.specs.declared.setup.RuleName.{RuleName}
 use Rattle.setup.specs.declared.setup.RuleName.TheVariants.{Sc, Tso, Pso, Rmo}
 use Rattle.setup.specs.Rules.{name_of, rules, rule_named}
+
+pub utf8_name : (r : RuleName) → IsUtf8 (name_of r)
+unfolding encode
+utf8_name Sc = (codes "sc", (refl, refl))
+utf8_name Tso = (codes "tso", (refl, refl))
+utf8_name Pso = (codes "pso", (refl, refl))
+utf8_name Rmo = (codes "rmo", (refl, refl))
 
 pub rule_name : (r : RuleName) → rule_named (name_of r) ≡ Some r
 rule_name Sc = refl

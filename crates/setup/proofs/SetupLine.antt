@@ -7,7 +7,8 @@ use Rattle.fields.specs.Numbers.{number}
 use Rattle.fields.specs.Splits.{split}
 use Rattle.fields.proofs.Lacking.{lacks_cons, lacks_append}
 use Rattle.fields.proofs.Numerals.{number_decimal, decimal_number, length_decimal, lacks_in_decimal}
-use Rattle.fields.proofs.Splitting.{split_front, split_last, rejoined_split}
+use Rattle.std.proofs.lemmas.List.Splits.{join_with_byte-slice_split}
+use Rattle.fields.proofs.Splitting.{split_front, split_last}
 use Rattle.fields.proofs.Stepping.{then_ok, some_from_ok_or}
 use Rattle.line.specs.declared.fault.Garbled.{Garbled}
 use Rattle.line.specs.declared.fault.Garbled.TheVariants.{FieldCount, Unknown, Number}
@@ -32,7 +33,7 @@ one_setup l s e =
     let same : made ≡ s = cc in
     let rule : f.0.0 ≡ name_of r.0 = name_rule _ _ (some_from_ok_or _ Unknown r.0 r.1.0) in
     let threads : f.0.1 ≡ decimal n.0 = (decimal_number _ _ (some_from_ok_or _ Number n.0 n.1.0)).0 in
-    let whole : l ≡ f.0.0 ++ (32 ∷ f.0.1) = sym (rejoined_split 32 l) ∙ ap (join_with_byte 32) (two_from_some (split 32 l) f.0 (some_from_ok_or _ FieldCount f.0 f.1.0)) in
+    let whole : l ≡ f.0.0 ++ (32 ∷ f.0.1) = sym (join_with_byte-slice_split 32 l) ∙ ap (join_with_byte 32) (two_from_some (split 32 l) f.0 (some_from_ok_or _ FieldCount f.0 f.1.0)) in
     sym (whole ∙ (λ i. rule i ++ (32 ∷ threads i)) ∙ ap setup_line same)
 
 -- the second line is short

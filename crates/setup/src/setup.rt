@@ -1,6 +1,6 @@
 // What the second line of a trace sets.
 
-// The ordering rules that a trace can name.
+// The ordering rules that a trace can name. Not the named rules themselves: a text may have more names than there are rules.
 #[derive(Clone, Copy)]
 pub enum RuleName {
     Sc,

@@ -1,11 +1,4 @@
-pub mod Rows
-pub mod Mapped
 pub mod Answers
-pub mod Calls
-pub mod Performs
-pub mod Ends
+pub mod Threads
 pub mod Notices
 pub mod Judgings
-pub mod Settling
-pub mod Making
-pub mod Carried

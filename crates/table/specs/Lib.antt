@@ -1,3 +1,4 @@
-pub mod Opens
-pub mod Views
+pub mod Sound
+pub mod Told
+pub mod Checks
 pub mod Judgings

@@ -10,6 +10,7 @@ pub enum Fault {
     Convicted(Conviction),
 }
 
+// Written out, since the clauses of the calls name the fault that `?` makes.
 impl From<Refusal> for Fault {
     ghost from_gives = { λ x r. r ≡ Refused x };
 

@@ -17,7 +17,8 @@ use Rattle.line.specs.Lines.{line_of, read, Fit}
 use Rattle.text.specs.Texts.{line, later, heading, setup, event_at, over, closes, Reading, done, fault, sets, tells, closed, told, events, onward, from_names}
 use Rattle.text.specs.Wholes.{lines_of, text_of, telling, Closed, TextBack, OneText}
 use Rattle.setup.proofs.SetupLine.{setup_back, one_setup, length_setup, feedless_setup}
-use Rattle.fields.proofs.Splitting.{split_front, split_some, rejoined_split}
+use Rattle.std.proofs.lemmas.List.Splits.{join_with_byte-slice_split}
+use Rattle.fields.proofs.Splitting.{split_front, split_some}
 use Rattle.fields.proofs.Lacking.{lacks_from_without}
 use Rattle.fields.proofs.Stepping.{then_ok}
 use Rattle.text.proofs.Feedless.{feedless_event}
@@ -189,5 +190,5 @@ one_text bs s es h =
     let second = rejoined_led (setup_line s) (later ls) (led_from_line (setup_line s) (later ls) (line_from_setup s (later ls) (b.1.0 ∙ ap (λ x. Ok x) same))) in
     let third = rejoined_led names (later (later ls)) (led_from_line names (later (later ls)) (line_from_heading names (later (later ls)) c.1.0)) in
     let last = events_lines 3 4 (later (later (later ls))) es c.1.1 in
-    let whole : bs ≡ text_of s es = sym (rejoined_split 10 bs) ∙ first ∙ ap (λ x. top ++ (10 ∷ x)) (second ∙ ap (λ x. setup_line s ++ (10 ∷ x)) (third ∙ ap (λ x. names ++ (10 ∷ x)) last)) in
+    let whole : bs ≡ text_of s es = sym (join_with_byte-slice_split 10 bs) ∙ first ∙ ap (λ x. top ++ (10 ∷ x)) (second ∙ ap (λ x. setup_line s ++ (10 ∷ x)) (third ∙ ap (λ x. names ++ (10 ∷ x)) last)) in
     sym whole

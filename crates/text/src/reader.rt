@@ -13,6 +13,7 @@ pub struct Entry {
 }
 
 // What is left of a text, how many of its lines were read, and whether the last of them was a close.
+// `closed` is a flag, since the calls and their clauses ask it by name; a type for each phase would be no plainer.
 #[derive(Drop)]
 pub struct Reader<'a> {
     rest: &'a [u8],

@@ -1,4 +1,5 @@
+pub mod Lists
+pub mod Ascending
 pub mod Begun
 pub mod Tests
 pub mod Laws
-pub mod Ends

@@ -1,4 +1,7 @@
-pub mod Begun
-pub mod View
+pub mod Results
+pub mod Extent
+pub mod Sound
+pub mod Times
 pub mod Tests
 pub mod Performing
+pub mod Attempt

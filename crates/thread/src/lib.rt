@@ -1,9 +1,9 @@
 // What a watch keeps of a thread: its clock, its outstanding operations and its open epochs.
 #![tactic(auto)]
 
-pub mod begins;
+mod attempt;
 pub mod limits;
-pub mod matching;
+mod lookups;
 pub mod row;
 pub mod served;
 pub mod span;

@@ -4,10 +4,6 @@
 pub const MOST_THREADS: usize = 4;
 // Places, which go from 0 up.
 pub const PLACES: usize = 512;
-// Kinds of an epoch: 0 to read, 1 to read and write.
-pub const KINDS: u64 = 2;
-// The kind of an epoch that reads and writes.
-pub const WRITE_KIND: u64 = 1;
 // Outstanding operations of a thread.
 pub const MOST_OUTSTANDING: usize = 64;
 // Commits of a thread.

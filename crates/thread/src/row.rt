@@ -1,9 +1,8 @@
-// The rows of a thread.
-ghost use Rattle.std.specs.Prelude.{◌≡◌, ◌≤◌, true, length, take};
-ghost use Rattle.thread.specs.Begun.{all, begun_by};
-
+// The row of a thread.
 use crate::limits::{MOST_OPEN, MOST_OUTSTANDING};
+use arrayvec::ArrayVec;
 use semantics::row::{Epoch, Operation};
+use std::marker::Model;
 
 mod laws;
 mod lookups;
@@ -11,19 +10,23 @@ mod making;
 mod performing;
 mod steps;
 
-// The first `pending` rows are outstanding, in program order; the first `held` epochs are open.
-#[derive(Clone, Copy)]
+// The outstanding operations stand in program order, the open epochs in the order of their begins.
+#[derive(Drop)]
 pub struct ThreadRow {
-    pub clock: u64,
-    pub commits: u64,
-    pub outstanding: [Operation; MOST_OUTSTANDING],
-    pub pending: usize,
-    pub epochs: [Epoch; MOST_OPEN],
-    pub held: usize,
-    ghost outstanding_long: { length outstanding ≡ 64 },
-    ghost pending_fits: { pending ≤ 64 },
-    ghost epochs_long: { length epochs ≡ 32 },
-    ghost held_fits: { held ≤ 32 },
-    ghost commits_fit: { commits ≤ 1000000 },
-    ghost epochs_begun: { all (begun_by clock) (take held epochs) ≡ true },
+    clock: u64,
+    commits: u64,
+    outstanding: ArrayVec<Operation, MOST_OUTSTANDING>,
+    epochs: ArrayVec<Epoch, MOST_OPEN>,
+}
+
+impl Model for ThreadRow {
+    ghost use Rattle.semantics.specs.State.{Thread};
+
+    ghost Value = { Thread };
+
+    ghost use Rattle.thread.specs.Sound.{IsSound};
+
+    ghost view = { λ w. record { clock = w.clock; commits = w.commits; pending = w.outstanding.items; epochs = w.epochs.items } };
+
+    ghost invariant = { IsSound };
 }

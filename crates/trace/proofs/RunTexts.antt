@@ -1,5 +1,5 @@
 -- The run of the events after a setup is the run of the text. Assumes nothing.
-use Rattle.std.proofs.Common.{◌≡◌, ℕ, List, None, Option, Result, sym, ap, ◌∙◌, subst}
+use Rattle.std.proofs.Common.{◌≡◌, ℕ, List, None, Ok, Err, Option, Result, MatchResult, is_ok, sym, ap, ◌∙◌, subst, arith}
 use Rattle.ordering.specs.Named.{named_orders}
 use Rattle.ordering.specs.declared.named.NamedRule.{NamedRule}
 use Rattle.semantics.specs.declared.verdict.Refusal.{Refusal}
@@ -23,6 +23,11 @@ module _ (bytes : List ℕ) (x : Setup) (r : Reading) (rule : NamedRule) (n : �
       ∙ (ap (λ q. run (by_rule (set_rule x)) q 3 r) (new ∙ ap made threads)
       ∙ (sym (ap (λ (o : Option Refusal). made_by o (run (by_rule (set_rule x)) (made x.threads) 3 r)) free)
       ∙ sym (ap run_all told))))
+
+-- A result whose error was put into another is as it was where it gave something.
+pub gave : {T E D : Type 0} (r : Result T E) (z : Result T D) (t : T) (Q : E → Type 0) → z ≡ Ok t → is_ok z ≡ is_ok r → MatchResult r (λ x. z ≡ Ok x) Q → r ≡ Ok t
+gave (Ok x) z t Q given same now = grind arith
+gave (Err f) z t Q given same now = absurd (grind arith)
 
 -- A result that is the text's carries its promise.
 pub carries : (bytes : List ℕ) (z : Result ℕ RunFault) → z ≡ run_text bytes → ConsistentIfClean bytes z

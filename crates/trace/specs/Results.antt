@@ -1,8 +1,8 @@
 -- What playing an event gives and leaves. Assumes nothing.
-use Rattle.std.specs.Prelude.{◌≡◌, ℕ, Some, None, Ok, Err, Option, Result}
-use Rattle.semantics.specs.Laws.{Rule}
+use Rattle.std.specs.Prelude.{◌≡◌, Some, None, Ok, Err, Option, Result}
+use Rattle.semantics.specs.Laws.{Rule, Precedes, by_rule}
+use Rattle.semantics.specs.State.{State}
 use Rattle.table.specs.declared.fault.Fault.{Fault}
-use Rattle.trace.specs.declared.fault.CallFault.{CallFault}
 use Rattle.trace.specs.Plays.{Played}
 use Rattle.watch.specs.Took.{Held}
 
@@ -17,7 +17,6 @@ pub record Plays {X : Type 0} (orders : X → Rule) (before : Held X) (p : Playe
   pub state : after.state ≡ p.state
   pub same : after.rule ≡ before.rule
 
--- The result of a call with its line.
-abbrev pub at_line : {A : Type 0} → ℕ → Result A Fault → Result A CallFault
-at_line k (Ok x) = Ok x
-at_line k (Err f) = Err (record { line = k; fault = f })
+-- The same of a play that is told by the order of a rule and a state: those that the watch held.
+abbrev pub PlaysAs : {X : Type 0} → (X → Rule) → Held X → (Precedes → State → Played) → Result (Unit {0}) Fault → Held X → Type 0
+PlaysAs orders before how r after = Plays orders before (how (by_rule (orders before.rule)) before.state) r after

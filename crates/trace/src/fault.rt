@@ -12,13 +12,14 @@ pub struct CallFault {
     pub fault: WatchFault,
 }
 
-// A fault of the text, or of the watch.
+// A fault of the text, or of the watch. It has no words of its own: the verdict's line and the sentence tell it.
 #[derive(Clone, Copy)]
 pub enum RunFault {
     Text(TextFault),
     Call(CallFault),
 }
 
+// This and the next are written out, since the clauses of a run name the error that `?` makes.
 impl From<TextFault> for RunFault {
     ghost from_gives = { λ x r. r ≡ Text x };
 

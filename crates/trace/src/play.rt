@@ -1,8 +1,6 @@
 // Events played on a watch.
-ghost use Rattle.semantics.specs.Laws.{by_rule};
 ghost use Rattle.trace.specs.Plays.{played, reporting, retry as retried};
-ghost use Rattle.trace.specs.Results.{Plays};
-ghost use Rattle.watch.specs.Took.{held};
+ghost use Rattle.trace.specs.Results.{PlaysAs};
 
 use event::event::Event;
 use ordering::rule::OrderingRule;
@@ -12,25 +10,25 @@ use watch::watch::Watch;
 
 // Settles and reports the notice again; failing that, drops it, and tells the settle's fault or else the refusal of the report.
 fn retry<R: OrderingRule>(watch: &mut Watch<R>, notice: Notice) -> Result<(), Fault>
-    ensures played { Plays R.OrderingRule.orders (held watch.old) (retried (by_rule (R.OrderingRule.orders (held watch.old).rule)) (held watch.old).state notice.number) result (held watch.new) }
+    ensures played { PlaysAs R.OrderingRule.orders watch.old (λ B s. retried B s notice.number) result watch.new }
 {
     let settled = watch.settle();
     match watch.report(notice) {
         Ok(()) => Ok(()),
+        // A match and no or_else, as in hand_in.
         Err(Returned { notice, refusal }) => {
             let _ = watch.drop(notice);
-            match settled {
-                Ok(_) => Err(Fault::Refused(refusal)),
-                Err(fault) => Err(fault),
-            }
+            settled?;
+            Err(Fault::from(refusal))
         }
     }
 }
 
 // Reports the notice of an end.
 fn hand_in<R: OrderingRule>(watch: &mut Watch<R>, notice: Notice) -> Result<(), Fault>
-    ensures played { Plays R.OrderingRule.orders (held watch.old) (reporting (by_rule (R.OrderingRule.orders (held watch.old).rule)) (held watch.old).state notice.number) result (held watch.new) }
+    ensures played { PlaysAs R.OrderingRule.orders watch.old (λ B s. reporting B s notice.number) result watch.new }
 {
+    // A match, since of a closure for `or_else` the check does not learn what it leaves in the watch.
     match watch.report(notice) {
         Ok(()) => Ok(()),
         Err(Returned { notice, refusal: _ }) => retry(watch, notice),
@@ -39,7 +37,7 @@ fn hand_in<R: OrderingRule>(watch: &mut Watch<R>, notice: Notice) -> Result<(), 
 
 // Makes the call of an event; after an end, its notice is reported.
 pub fn play<R: OrderingRule>(watch: &mut Watch<R>, event: Event) -> Result<(), Fault>
-    ensures played { Plays R.OrderingRule.orders (held watch.old) (played (by_rule (R.OrderingRule.orders (held watch.old).rule)) (held watch.old).state event) result (held watch.new) }
+    ensures played { PlaysAs R.OrderingRule.orders watch.old (λ B s. played B s event) result watch.new }
 {
     match event {
         Event::Preset { place, value } => watch.preset(place, value)?,

@@ -1,6 +1,9 @@
 -- The promises of the calls, from what the table's calls do. Assumes nothing.
-use Rattle.std.proofs.Common.{◌≡◌, ℕ, ◌+◌, ◌≤◌, Bool, true, false, cond, ◌||◌, [], ◌∷◌, sym, refl, ap, subst, arith}
+use Rattle.std.proofs.Common.{◌≡◌, ℕ, ◌+◌, ◌≤◌, Bool, true, false, cond, ◌||◌, [], ◌∷◌, sym, refl, ap, ◌∙◌, subst, arith}
+use Rattle.semantics.specs.declared.counts.Counts.{Counts}
+use Rattle.semantics.specs.declared.verdict.Verdict.{Verdict}
 use Rattle.semantics.specs.declared.verdict.Verdict.TheVariants.{Clean}
+use Rattle.semantics.specs.Asking.{counts}
 use Rattle.semantics.specs.Calls.{Call, close, Answer}
 use Rattle.semantics.specs.Effect.{Outcome}
 use Rattle.semantics.specs.Laws.{Rule, by_rule}
@@ -13,9 +16,9 @@ use Rattle.consistency.proofs.Clean.{clean_is_consistent, clean_keeps_places, cl
 use Rattle.consistency.proofs.Verdicts.{TellsBy, tells}
 use Rattle.honest.specs.Honest.{HonestCall, HonestClose}
 use Rattle.honest.proofs.AtOneCall.{honest_call, honest_close}
-use Rattle.table.specs.Views.{Meets}
-use Rattle.watch.specs.Promises.{Accounted, ShownClean, Promised, ClosePromised, Concluded}
-use Rattle.watch.specs.Took.{event}
+use Rattle.table.specs.Told.{Meets}
+use Rattle.watch.specs.Promises.{Accounted, ShownClean, Promised, ClosePromised, Concluded, Counted}
+use Rattle.watch.specs.Took.{Held, event}
 use Rattle.watch.proofs.Taking.{grows}
 
 pub accounted : (R : Rule) (n : ℕ) (tr : Trace) (s : State) → Follows R n tr s → Accounted tr s
@@ -29,17 +32,19 @@ shown_clean R n tr s f e = record {
   all_performed = clean_performs_all R n tr s f e;
 }
 
-pub promised : {X : Type 0} (orders : X → Rule) (x : X) (s : State) (c : Call) (a : Answer) (s' : State) → Meets (by_rule (orders x)) s c a s' → Promised orders (record { rule = x; state = s }) c a (record { rule = x; state = s' })
-promised orders x s c a s' m =
-    let R = orders x in
+pub promised : {X : Type 0} (orders : X → Rule) (before : Held X) (c : Call) (a : Answer) (after : Held X) → Meets (by_rule (orders before.rule)) before.state c a after.state → Promised orders before c a after
+promised orders before c a after m =
+    let R = orders before.rule in
     record {
-      honest = λ n tr f. subst (HonestCall R n tr c) (sym (ap (λ (o : Outcome). o.answer) m)) (honest_call R n tr s c f);
-      accounts = λ n tr f. accounted R n (event c a ∷ tr) s' (grows R s c a s' m n tr f);
+      honest = λ n tr f. subst (HonestCall R n tr c) (sym (ap (λ (o : Outcome). o.answer) m)) (honest_call R n tr before.state c f);
+      accounts = λ n tr f. accounted R n (event c a ∷ tr) after.state (grows R before.state c a after.state m n tr f);
     }
 
-pub close_promised : {X : Type 0} (orders : X → Rule) (x : X) (s : State) (a : Answer) (s' : State) → Meets (by_rule (orders x)) s close a s' → ClosePromised orders (record { rule = x; state = s }) a (record { rule = x; state = s' })
-close_promised orders x s a s' m =
-    let R = orders x in
+pub close_promised : {X : Type 0} (orders : X → Rule) (before : Held X) (a : Answer) (after : Held X) → Meets (by_rule (orders before.rule)) before.state close a after.state → ClosePromised orders before a after
+close_promised orders before a after m =
+    let R = orders before.rule in
+    let s = before.state in
+    let s' = after.state in
     record {
       clean = λ n tr f e. shown_clean R n (event close a ∷ tr) s' (grows R s close a s' m n tr f) (ap (λ b. says_clean b || is_clean tr) e);
       honest = λ n tr f. subst (HonestClose R n tr) (sym (ap (λ (o : Outcome). o.answer) m)) (honest_close R n tr s f);
@@ -55,8 +60,14 @@ counted_clean (e ∷ tr) l = by (says_clean e.answer) l (counted_clean tr)
     by true l ih = refl
     by false l ih = ih l
 
-pub concluded : {X : Type 0} (orders : X → Rule) (x : X) (s : State) → Concluded orders (record { rule = x; state = s }) s.verdict
-concluded orders x s n tr f e =
-    let h : TellsBy Clean tr s = subst (λ v. TellsBy v tr s) e (tells (orders x) n f) in
+pub concluded : {X : Type 0} (orders : X → Rule) (now : Held X) (v : Verdict) → v ≡ now.state.verdict → Concluded orders now v
+concluded orders now v q n tr f e =
+    let h : TellsBy Clean tr now.state = subst (λ v. TellsBy v tr now.state) (sym q ∙ e) (tells (orders now.rule) n f) in
     let k = h.0 in
-    shown_clean (orders x) n tr s f (counted_clean tr (omega arith))
+    shown_clean (orders now.rule) n tr now.state f (counted_clean tr (omega arith))
+
+pub counted : {X : Type 0} (orders : X → Rule) (now : Held X) (k : Counts) → k ≡ counts now.state → Counted orders now k
+counted orders now k q = record {
+  counted = λ n tr f. q ∙ (accounted (orders now.rule) n tr now.state f).exact.counted;
+  accounts = λ n tr f. accounted (orders now.rule) n tr now.state f;
+}

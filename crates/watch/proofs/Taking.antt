@@ -7,24 +7,25 @@ use Rattle.semantics.specs.Laws.{Rule, by_rule}
 use Rattle.semantics.specs.State.{State, Thread}
 use Rattle.semantics.specs.Trace.{Trace, Follows, met}
 use Rattle.consistency.proofs.Refused.{refused_changes_nothing}
-use Rattle.table.specs.Views.{Meets}
-use Rattle.watch.specs.Took.{Took, event}
+use Rattle.table.specs.Told.{Meets}
+use Rattle.watch.specs.Took.{Held, Took, event}
 
-module _ (R : Rule) (s : State) (c : Call) (a : Answer) (s' : State) (m : Meets (by_rule R) s c a s') where
-  pub grows : (n : ℕ) (tr : Trace) → Follows R n tr s → Follows R n (event c a ∷ tr) s'
-  grows n tr f = subst (λ (o : Outcome). Follows R n (event c o.answer ∷ tr) o.state) (sym m) (met f c)
+-- The trace with the call and its answer.
+pub grows : (R : Rule) (s : State) (c : Call) (a : Answer) (s' : State) → Meets (by_rule R) s c a s' → (n : ℕ) (tr : Trace) → Follows R n tr s → Follows R n (event c a ∷ tr) s'
+grows R s c a s' m n tr f = subst (λ (o : Outcome). Follows R n (event c o.answer ∷ tr) o.state) (sym m) (met f c)
 
-pub took : {X : Type 0} (orders : X → Rule) (x : X) (s : State) (c : Call) (a : Answer) (s' : State) → Meets (by_rule (orders x)) s c a s' → Took orders (record { rule = x; state = s }) c a (record { rule = x; state = s' })
-took orders x s c a s' m =
+pub took : {X : Type 0} (orders : X → Rule) (before now : Held X) (c : Call) (a : Answer) (s' : State) → before ≡ now → Meets (by_rule (orders before.rule)) before.state c a s' → Took orders now c a (record { rule = before.rule; state = s' })
+took orders before now c a s' h m =
+    let R = orders before.rule in
     let p = ap (λ (o : Outcome). o.answer) m in
     let q = ap (λ (o : Outcome). o.state) m in
-    record {
+    subst (λ now. Took orders now c a (record { rule = before.rule; state = s' })) h (record {
       answer = p;
       state = q;
       same = refl;
-      kept = λ r e. q ∙ refused_changes_nothing (by_rule (orders x)) s c r (sym p ∙ e);
-      history = grows (orders x) s c a s' m;
-    }
+      kept = λ r e. q ∙ refused_changes_nothing (by_rule R) before.state c r (sym p ∙ e);
+      history = grows R before.state c a s' m;
+    })
 
 -- An exact answer lies within the leeway.
 pub within_leeway : (w : Thread) (k : ℕ) → k ≡ free_places w → WithinLeeway w k

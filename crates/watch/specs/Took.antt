@@ -8,16 +8,11 @@ use Rattle.semantics.specs.Laws.{Rule, by_rule}
 use Rattle.semantics.specs.State.{State, thread_of}
 use Rattle.semantics.specs.Step.{step}
 use Rattle.semantics.specs.Trace.{Event, Trace, Follows}
-use Rattle.table.specs.Views.{view}
-use Rattle.watch.specs.declared.watch.Watch.{Watch}
 
 -- What a watch holds: its rule, and the state of its table.
 pub record Held (X : Type 0) : Type 0 where
   pub rule : X
   pub state : State
-
-abbrev pub held : {X : Type 0} → Watch X → Held X
-held w = record { rule = w.rule; state = view w.table }
 
 -- A call and its answer, as a trace has them.
 abbrev pub event : Call → Answer → Event

@@ -14,11 +14,13 @@ pub struct Threads {
     ghost fits: { count ≤ 4 },
 }
 
-impl Threads {
-    // Refusal 1, unless the number lies from 1 to 4.
-    pub fn new(number: u64) -> Result<Threads, Refusal>
-        ensures answer { MatchResult result (λ t. (first_of (making_checks number) ≡ None) × (t.count ≡ number)) (λ f. first_of (making_checks number) ≡ Some f) }
-    {
+// Refusal 1, unless the number lies from 1 to 4.
+impl TryFrom<u64> for Threads {
+    type Error = Refusal;
+
+    ghost try_from_gives = { λ number r. MatchResult r (λ t. (first_of (making_checks number) ≡ None) × (t.count ≡ number)) (λ f. first_of (making_checks number) ≡ Some f) };
+
+    fn try_from(number: u64) -> Result<Threads, Refusal> {
         if number == 0 || number > MOST_THREADS as u64 {
             return Err(Refusal::ThreadCount);
         }

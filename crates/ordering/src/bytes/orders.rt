@@ -14,7 +14,7 @@ impl OrderingRule for ByteTable<'_> {
     ghost orders = { λ t first second. table_orders t.bytes.now first second };
 
     fn ordered(&self, first: Class, second: Class) -> bool {
-        let place = (CLASSES * first.number() + second.number()) as usize;
-        place >= self.bytes.len() || self.bytes[place] != UNORDERED
+        let place = (CLASSES * u64::from(first) + u64::from(second)) as usize;
+        self.bytes.get(place).is_none_or(|byte| *byte != UNORDERED)
     }
 }

@@ -1,8 +1,8 @@
 // The numbers by which classes are written.
-ghost use Rattle.std.specs.Prelude.{◌≡◌, ◌<◌};
+ghost use Rattle.std.specs.Prelude.{◌≡◌, ◌<◌, ok_or};
 ghost use Rattle.ordering.specs.Classes.{mask_of, mask_number, known_class, number_of};
 
-use crate::class::{Class, Mask};
+use crate::class::{Class, Mask, UnknownClass};
 
 // How many classes there are.
 pub const CLASSES: u64 = 18;
@@ -21,11 +21,11 @@ const LOAD_STORE: u64 = 4;
 // What the pair of two stores adds.
 const STORE_STORE: u64 = 8;
 
-impl Mask {
-    // The mask of a number.
-    pub fn from_number(number: u64) -> Mask
-        ensures answer { result ≡ mask_of number }
-    {
+// The mask of a number.
+impl From<u64> for Mask {
+    ghost from_gives = { λ number mask. mask ≡ mask_of number };
+
+    fn from(number: u64) -> Mask {
         Mask {
             load_load: number / LOAD_LOAD % 2 == 1,
             store_load: number / STORE_LOAD % 2 == 1,
@@ -33,53 +33,45 @@ impl Mask {
             store_store: number / STORE_STORE % 2 == 1,
         }
     }
+}
 
-    // The number of the mask: the sum of what its pairs add.
-    pub fn number(self) -> u64
-        ensures answer { result ≡ mask_number self }
-        ensures bound { result < 16 }
-    {
-        let mut number = 0;
-        if self.load_load {
-            number += LOAD_LOAD;
-        }
-        if self.store_load {
-            number += STORE_LOAD;
-        }
-        if self.load_store {
-            number += LOAD_STORE;
-        }
-        if self.store_store {
-            number += STORE_STORE;
-        }
-        number
+// The number of a mask: the sum of what its pairs add.
+impl From<Mask> for u64 {
+    ghost from_gives = { λ mask number. (number ≡ mask_number mask) × (number < 16) };
+
+    fn from(mask: Mask) -> u64 {
+        u64::from(mask.load_load) * LOAD_LOAD
+            + u64::from(mask.store_load) * STORE_LOAD
+            + u64::from(mask.load_store) * LOAD_STORE
+            + u64::from(mask.store_store) * STORE_STORE
     }
 }
 
-impl Class {
-    // The class of a number, or none where the number is above 17.
-    pub fn from_number(number: u64) -> Option<Class>
-        ensures answer { result ≡ known_class number }
-    {
-        if number >= CLASSES {
-            return None;
-        }
+// The class of a number up to 17.
+impl TryFrom<u64> for Class {
+    type Error = UnknownClass;
+
+    ghost try_from_gives = { λ number class. class ≡ ok_or (known_class number) (record {}) };
+
+    fn try_from(number: u64) -> Result<Class, UnknownClass> {
         match number {
-            LOAD => Some(Class::Load),
-            STORE => Some(Class::Store),
-            _ => Some(Class::Barrier(Mask::from_number(number - BARRIER))),
+            LOAD => Ok(Class::Load),
+            STORE => Ok(Class::Store),
+            BARRIER..CLASSES => Ok(Class::Barrier(Mask::from(number - BARRIER))),
+            _ => Err(UnknownClass),
         }
     }
+}
 
-    // The number of the class.
-    pub fn number(self) -> u64
-        ensures answer { result ≡ number_of self }
-        ensures bound { result < 18 }
-    {
-        match self {
+// The number of a class.
+impl From<Class> for u64 {
+    ghost from_gives = { λ class number. (number ≡ number_of class) × (number < 18) };
+
+    fn from(class: Class) -> u64 {
+        match class {
             Class::Load => LOAD,
             Class::Store => STORE,
-            Class::Barrier(mask) => BARRIER + mask.number(),
+            Class::Barrier(mask) => BARRIER + u64::from(mask),
         }
     }
 }

@@ -1,20 +1,23 @@
 // The names of the named rules.
-ghost use Rattle.std.specs.Prelude.{◌≡◌};
+ghost use Rattle.std.specs.Prelude.{◌≡◌, ok_or};
 ghost use Rattle.ordering.specs.Names.{rule_named};
 
-use crate::named::NamedRule;
+use crate::named::{NamedRule, UnknownName};
+use std::str::FromStr;
 
-impl NamedRule {
-    // The rule of a lower-case name, or none where no rule has the name.
-    pub fn from_name(name: &str) -> Option<NamedRule>
-        ensures answer { result ≡ rule_named name.now }
-    {
+// The rule of a lower-case name.
+impl FromStr for NamedRule {
+    type Err = UnknownName;
+
+    ghost from_str_gives = { λ name rule. rule ≡ ok_or (rule_named name) (record {}) };
+
+    fn from_str(name: &str) -> Result<NamedRule, UnknownName> {
         match name {
-            "sc" => Some(NamedRule::Sc),
-            "tso" => Some(NamedRule::Tso),
-            "pso" => Some(NamedRule::Pso),
-            "rmo" => Some(NamedRule::Rmo),
-            _ => None,
+            "sc" => Ok(NamedRule::Sc),
+            "tso" => Ok(NamedRule::Tso),
+            "pso" => Ok(NamedRule::Pso),
+            "rmo" => Ok(NamedRule::Rmo),
+            _ => Err(UnknownName),
         }
     }
 }

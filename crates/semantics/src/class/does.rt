@@ -5,6 +5,7 @@ ghost use Rattle.semantics.specs.Classes.{reads, writes, touches, face, op_class
 use super::OpClass;
 use ordering::class::Class;
 
+// Each answer names every class, so that none is passed over when there is one more.
 impl OpClass {
     // It receives a value.
     pub fn reads(self) -> bool
@@ -33,7 +34,7 @@ impl OpClass {
         self.reads() || self.writes()
     }
 
-    // The class by which a rule orders it.
+    // The class by which a rule orders it. No From: an operation may come to show a rule more classes than one.
     pub fn face(self) -> Class
         ensures { result ≡ face self }
     {

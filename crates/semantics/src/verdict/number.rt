@@ -5,21 +5,16 @@ ghost use Rattle.semantics.specs.Numbers.{limit_number, refusal_number, limit_in
 use super::{Law, Limit, Refusal};
 
 impl Limit {
+    // The number of the limit. A method, as of a refusal and a law.
     pub fn number(self) -> u64
         ensures { result ≡ limit_number self }
     {
-        match self {
-            Limit::Outstanding => 1,
-            Limit::Commits => 2,
-            Limit::Open => 3,
-            Limit::Begins => 4,
-            Limit::Owed => 5,
-            Limit::Waiting => 6,
-        }
+        self as u64
     }
 }
 
 impl Refusal {
+    // A match, since an enum whose variant holds a limit has no discriminants to cast.
     pub fn number(self) -> u64
         ensures { result ≡ refusal_number self }
     {
@@ -41,7 +36,7 @@ impl Refusal {
         }
     }
 
-    // The number of the limit that a call would pass, and 0 for any other refusal.
+    // The number of the limit that a call would pass, and 0 for any other refusal: a verdict's line has a number for each.
     pub fn limit(self) -> u64
         ensures { result ≡ limit_in self }
     {
@@ -53,19 +48,10 @@ impl Refusal {
 }
 
 impl Law {
+    // The number of the law.
     pub fn number(self) -> u64
         ensures { result ≡ law_number self }
     {
-        match self {
-            Law::SamePlace => 21,
-            Law::Ordered => 22,
-            Law::NoLeave => 23,
-            Law::WrongValue => 24,
-            Law::EndTooEarly => 25,
-            Law::WrongEndValue => 26,
-            Law::Overlap => 27,
-            Law::WrongBeginValue => 28,
-            Law::Dropped => 29,
-        }
+        self as u64
     }
 }

@@ -2,26 +2,16 @@
 ghost use Rattle.std.specs.Prelude.{◌≡◌, ◌+◌, Ok, Err, MatchResult};
 ghost use Rattle.fields.specs.Splits.{split};
 ghost use Rattle.text.specs.Texts.{closes, closed, heading, reading};
-ghost use Rattle.text.specs.Readers.{located, start, set_up, before_names, names_read, headed, left, next, Fresh, MovedTo, AfterSetup, AfterNames, AfterNext, Shrinks};
+ghost use Rattle.text.specs.Readers.{start, set_up, before_names, names_read, headed, left, next, Fresh, MovedTo, AfterSetup, AfterNames, AfterNext, Shrinks};
 ghost use Rattle.text.specs.Wholes.{TextBack, OneText};
 
 use crate::fault::Fault;
 use crate::limits::MAX_TEXT;
-use crate::lines::{next_event, next_setup, pass_heading};
+use crate::lines::{next_as, pass_heading};
 use crate::reader::{Entry, Reader};
 use event::event::Event;
 use line::fault::Garbled;
 use setup::setup::Setup;
-
-// The result of a line with the line's number.
-fn at<T>(line: u64, read: Result<T, Garbled>) -> Result<T, Fault>
-    ensures { result ≡ located line read }
-{
-    match read {
-        Ok(x) => Ok(x),
-        Err(what) => Err(Fault { line, what }),
-    }
-}
 
 fn is_close(event: Event) -> bool
     ensures { result ≡ closes event }
@@ -31,6 +21,7 @@ fn is_close(event: Event) -> bool
 
 impl<'a> Reader<'a> {
     // A text of which nothing was read.
+    #[tactic(auto, using(crate::proofs::WholeText::text_back, crate::proofs::WholeText::one_text))]
     pub fn new(text: &'a [u8]) -> Reader<'a>
         ensures value { start result ≡ reading text.now }
         ensures state { Fresh text.now result }
@@ -56,7 +47,10 @@ impl<'a> Reader<'a> {
             });
         }
         self.heading(b"rule threads")?;
-        let (setup, rest) = at(self.lines + 1, next_setup(self.rest))?;
+        let (setup, rest) = next_as::<Setup>(self.rest).map_err(|what| Fault {
+            line: self.lines + 1,
+            what,
+        })?;
         self.rest = rest;
         self.lines += 1;
         Ok(setup)
@@ -83,7 +77,7 @@ impl<'a> Reader<'a> {
             return self.end();
         }
         let line = self.lines + 1;
-        let (event, rest) = at(line, next_event(self.rest))?;
+        let (event, rest) = next_as::<Event>(self.rest).map_err(|what| Fault { line, what })?;
         self.rest = rest;
         self.lines = line;
         self.closed = is_close(event);
@@ -91,6 +85,7 @@ impl<'a> Reader<'a> {
     }
 
     // After a close: none where the text ends, else a fault.
+    #[tactic(auto, using(crate::proofs::Passing::over_none, crate::proofs::Passing::over_some))]
     fn end(&self) -> Result<Option<Entry>, Fault>
         ensures { closed self.now.lines (split 10 self.now.rest.now) ≡ next self.now result }
     {
@@ -105,10 +100,14 @@ impl<'a> Reader<'a> {
     }
 
     // Reads a line that has to be as expected.
+    // Here and above a fault is written out: of one that a method makes the check does not find what it tells.
     fn heading(&mut self, expected: &[u8]) -> Result<(), Fault>
         ensures { MatchResult result (λ _. (heading expected.now (split 10 self.old.rest.now) ≡ Ok tt) × MovedTo self.old.closed self.old self.new) (λ f. (heading expected.now (split 10 self.old.rest.now) ≡ Err f.what) × (f.line ≡ self.old.lines + 1) × (self.new ≡ self.old)) }
     {
-        self.rest = at(self.lines + 1, pass_heading(self.rest, expected))?;
+        self.rest = pass_heading(self.rest, expected).map_err(|what| Fault {
+            line: self.lines + 1,
+            what,
+        })?;
         self.lines += 1;
         Ok(())
     }

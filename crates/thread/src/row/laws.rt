@@ -1,20 +1,42 @@
 // The laws that a thread's operations and epochs have to keep.
-ghost use Rattle.std.specs.Prelude.{◌≡◌, ◌<◌, Some, None, MatchOption, MatchResult};
-ghost use Rattle.semantics.specs.declared.class.OpClass.TheVariants as class;
-ghost use Rattle.semantics.specs.Laws.{by_rule, forwarded, source, law21, law22, perform_laws, end_laws};
-ghost use Rattle.thread.specs.Performing.{epoch_in, leave_laws, value_put, Serves, Sourced, Spans};
-ghost use Rattle.thread.specs.View.{view_thread};
+ghost use Rattle.std.specs.Prelude.{◌≡◌, ◌<◌, length, Some, None, MatchResult};
+ghost use Rattle.semantics.specs.Laws.{by_rule, earlier, perform_laws, end_laws};
+ghost use Rattle.thread.specs.Performing.{epoch_in, Serves, Spans};
 
 use super::ThreadRow;
-use crate::matching::{Feeds, GoesBefore, SharesPlace};
-use crate::served::{Performed, Served};
+use crate::attempt::Attempt;
+use crate::lookups::row_from;
+use crate::served::Served;
 use crate::span::Span;
 use ordering::rule::OrderingRule;
-use semantics::class::OpClass;
 use semantics::row::Operation;
 use semantics::verdict::{Conviction, Law};
 
 impl ThreadRow {
+    // An operation is to perform.
+    fn attempt(&self, thread: u64, op: Operation) -> Attempt<'_>
+        ensures thread { result.thread ≡ thread }
+        ensures op { result.op ≡ op }
+        ensures earlier { result.earlier.now ≡ earlier self.now op.number }
+        ensures epochs { result.epochs.now ≡ self.now.epochs }
+    {
+        Attempt {
+            thread,
+            op,
+            earlier: self.earlier(op.number),
+            epochs: &self.epochs,
+        }
+    }
+
+    // The outstanding operations before a number in program order. They stand in front, since their numbers ascend;
+    // they are looked for from the front, where most often the one that performs stands.
+    fn earlier(&self, number: u64) -> &[Operation]
+        ensures { result.now ≡ earlier self.now number }
+    {
+        let rows = row_from(&self.outstanding, number).unwrap_or(self.outstanding.len());
+        &self.outstanding[..rows]
+    }
+
     // Laws 21 to 24: what the operation answers and which epoch it uses, or the law that it breaks.
     pub fn lawful<R: OrderingRule>(
         &self,
@@ -22,160 +44,17 @@ impl ThreadRow {
         thread: u64,
         op: Operation,
     ) -> Result<Served, Conviction>
-        ensures { MatchResult result (λ s. (perform_laws (by_rule (R.OrderingRule.orders rule.now)) (view_thread self.now) thread op ≡ None) × Serves (view_thread self.now) op s) (λ c. perform_laws (by_rule (R.OrderingRule.orders rule.now)) (view_thread self.now) thread op ≡ Some c) }
+        ensures { MatchResult result (λ s. (perform_laws (by_rule (R.OrderingRule.orders rule.now)) self.now thread op ≡ None) × Serves self.now op s) (λ c. perform_laws (by_rule (R.OrderingRule.orders rule.now)) self.now thread op ≡ Some c) }
     {
-        self.keeps_place(thread, op)?;
-        self.keeps_rule(rule, thread, op)?;
-        self.serve(thread, op)
-    }
-
-    // Law 21.
-    fn keeps_place(&self, thread: u64, op: Operation) -> Result<(), Conviction>
-        ensures { MatchResult result (λ _. law21 (view_thread self.now) thread op ≡ None) (λ c. law21 (view_thread self.now) thread op ≡ Some c) }
-    {
-        if !op.class.writes() {
-            return Ok(());
-        }
-        match rows::first(&self.outstanding[0..self.pending], &SharesPlace { op }) {
-            Some(i) => Err(Conviction {
-                law: Law::SamePlace,
-                thread,
-                number: op.number,
-                other: self.outstanding[i].number,
-            }),
-            None => Ok(()),
-        }
-    }
-
-    // Law 22.
-    fn keeps_rule<R: OrderingRule>(
-        &self,
-        rule: &R,
-        thread: u64,
-        op: Operation,
-    ) -> Result<(), Conviction>
-        ensures { MatchResult result (λ _. law22 (by_rule (R.OrderingRule.orders rule.now)) (view_thread self.now) thread op ≡ None) (λ c. law22 (by_rule (R.OrderingRule.orders rule.now)) (view_thread self.now) thread op ≡ Some c) }
-    {
-        match rows::first(&self.outstanding[0..self.pending], &GoesBefore { rule, op }) {
-            Some(i) => Err(Conviction {
-                law: Law::Ordered,
-                thread,
-                number: op.number,
-                other: self.outstanding[i].number,
-            }),
-            None => Ok(()),
-        }
-    }
-
-    // Laws 23 and 24.
-    fn serve(&self, thread: u64, op: Operation) -> Result<Served, Conviction>
-        ensures { MatchResult result (λ s. (leave_laws (view_thread self.now) thread op ≡ None) × Serves (view_thread self.now) op s) (λ c. leave_laws (view_thread self.now) thread op ≡ Some c) }
-    {
-        match op.class {
-            OpClass::Load => self.load(thread, op),
-            OpClass::Store => self.store(thread, op),
-            OpClass::Barrier(_) => Ok(Served {
-                answer: Performed::Done,
-                uses: None,
-            }),
-        }
-    }
-
-    // Laws 23 and 24 for a load.
-    fn load(&self, thread: u64, op: Operation) -> Result<Served, Conviction>
-        requires { op.class ≡ class.Load }
-        ensures { MatchResult result (λ s. (leave_laws (view_thread self.now) thread op ≡ None) × Serves (view_thread self.now) op s) (λ c. leave_laws (view_thread self.now) thread op ≡ Some c) }
-    {
-        match self.source(op) {
-            Some((value, served)) => {
-                if value != op.value {
-                    return Err(Conviction {
-                        law: Law::WrongValue,
-                        thread,
-                        number: op.number,
-                        other: value,
-                    });
-                }
-                Ok(served)
-            }
-            None => Err(Conviction {
-                law: Law::NoLeave,
-                thread,
-                number: op.number,
-                other: op.place,
-            }),
-        }
-    }
-
-    // A load's value: from the last earlier outstanding store to its place, failing that from the copy of the open epoch there.
-    fn source(&self, op: Operation) -> Option<(u64, Served)>
-        ensures { MatchOption result (source (view_thread self.now) op ≡ None) (λ p. Sourced (view_thread self.now) op p.0 p.1) }
-    {
-        match self.forwarded(op) {
-            Some(value) => Some((
-                value,
-                Served {
-                    answer: Performed::Forwarded,
-                    uses: None,
-                },
-            )),
-            None => match self.epoch(op.place) {
-                Some(i) => Some((
-                    self.epochs[i].copy,
-                    Served {
-                        answer: Performed::Copied,
-                        uses: Some(i),
-                    },
-                )),
-                None => None,
-            },
-        }
-    }
-
-    // The value of the last earlier outstanding store to the place of a load.
-    fn forwarded(&self, op: Operation) -> Option<u64>
-        ensures { result ≡ value_put (forwarded (view_thread self.now) op) }
-    {
-        match rows::last(&self.outstanding[0..self.pending], &Feeds { op }) {
-            Some(i) => Some(self.outstanding[i].value),
-            None => None,
-        }
-    }
-
-    // Law 23 for a store.
-    fn store(&self, thread: u64, op: Operation) -> Result<Served, Conviction>
-        requires { op.class ≡ class.Store }
-        ensures { MatchResult result (λ s. (leave_laws (view_thread self.now) thread op ≡ None) × Serves (view_thread self.now) op s) (λ c. leave_laws (view_thread self.now) thread op ≡ Some c) }
-    {
-        match self.epoch(op.place) {
-            Some(i) => {
-                if self.epochs[i].writes {
-                    return Ok(Served {
-                        answer: Performed::Done,
-                        uses: Some(i),
-                    });
-                }
-                Err(Conviction {
-                    law: Law::NoLeave,
-                    thread,
-                    number: op.number,
-                    other: op.place,
-                })
-            }
-            None => Err(Conviction {
-                law: Law::NoLeave,
-                thread,
-                number: op.number,
-                other: op.place,
-            }),
-        }
+        self.attempt(thread, op).lawful(rule)
     }
 
     // Laws 25 and 26: the span of the epoch in a row, if it may end with this value at this time.
     pub fn span(&self, thread: u64, i: usize, value: u64, time: u64) -> Result<Span, Conviction>
-        requires { i < self.now.held }
-        ensures { MatchResult result (λ s. Spans thread (epoch_in (view_thread self.now) i) value time s) (λ c. end_laws thread (epoch_in (view_thread self.now) i) value time ≡ Some c) }
+        requires { i < length self.now.epochs }
+        ensures { MatchResult result (λ s. Spans thread (epoch_in self.now i) value time s) (λ c. end_laws thread (epoch_in self.now i) value time ≡ Some c) }
     {
+        // Of the two convictions no field but the thread and the place is the same.
         let epoch = self.epochs[i];
         if time <= epoch.used {
             return Err(Conviction {
@@ -193,9 +72,6 @@ impl ThreadRow {
                 other: epoch.copy,
             });
         }
-        Ok(Span {
-            begin: epoch.from,
-            end: time,
-        })
+        Ok(Span::new(epoch.from, time))
     }
 }

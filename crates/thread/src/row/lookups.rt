@@ -1,24 +1,54 @@
 // Looking up an operation or an epoch of a thread.
-ghost use Rattle.std.specs.Prelude.{◌≡◌, Some, None, MatchOption, nat_eq};
-ghost use Rattle.rows.specs.Found.{Found};
-ghost use Rattle.semantics.specs.State.{outstanding_as, epoch_at};
-ghost use Rattle.thread.specs.View.{view_thread};
+ghost use Rattle.std.specs.Prelude.{◌≡◌, ◌<◌, ◌≤◌, length, position, nat_eq};
+ghost use Rattle.thread.specs.Performing.{operation_in, epoch_in};
 
 use super::ThreadRow;
-use crate::matching::{At, Numbered};
+use crate::lookups::{row_at, row_numbered};
+use semantics::row::{Epoch, Operation};
 
 impl ThreadRow {
     // The row of the operation that is outstanding under a number.
     pub fn operation(&self, number: u64) -> Option<usize>
-        ensures { MatchOption result (outstanding_as (view_thread self.now) number ≡ None) (λ i. Found (λ o. nat_eq o.number number) (view_thread self.now).pending i) }
+        ensures { result ≡ position (λ o. nat_eq o.number number) self.now.pending }
     {
-        rows::first(&self.outstanding[0..self.pending], &Numbered { number })
+        row_numbered(&self.outstanding, number)
     }
 
     // The row of the open epoch of a place.
     pub fn epoch(&self, place: u64) -> Option<usize>
-        ensures { MatchOption result (epoch_at (view_thread self.now) place ≡ None) (λ i. Found (λ e. nat_eq e.place place) (view_thread self.now).epochs i) }
+        ensures { result ≡ position (λ e. nat_eq e.place place) self.now.epochs }
     {
-        rows::first(&self.epochs[0..self.held], &At { place })
+        row_at(&self.epochs, place)
+    }
+
+    // The outstanding operation in a row that a lookup answered.
+    pub fn operation_in(&self, i: usize) -> Operation
+        requires { i < length self.now.pending }
+        ensures { result ≡ operation_in self.now i }
+    {
+        self.outstanding[i]
+    }
+
+    // The open epoch in a row that a lookup answered.
+    pub fn epoch_in(&self, i: usize) -> Epoch
+        requires { i < length self.now.epochs }
+        ensures { result ≡ epoch_in self.now i }
+    {
+        self.epochs[i]
+    }
+
+    // The time of the latest step.
+    pub fn clock(&self) -> u64
+        ensures { result ≡ self.now.clock }
+    {
+        self.clock
+    }
+
+    // How many epochs are open.
+    pub fn open(&self) -> u64
+        ensures count { result ≡ length self.now.epochs }
+        ensures fits { result ≤ 32 }
+    {
+        self.epochs.len() as u64
     }
 }

@@ -1,62 +1,55 @@
 // A thread that has done nothing, and what can be asked of one.
-ghost use Rattle.std.specs.Prelude.{◌≡◌, ◌+◌, length, ◌==◌, min};
-ghost use Rattle.std.specs.List.{fold};
+ghost use Rattle.std.specs.Prelude.{◌≡◌, ◌+◌, length, fold, min, ◌==◌};
 ghost use Rattle.semantics.specs.Asking.{free_places};
 ghost use Rattle.semantics.specs.State.{idle};
-ghost use Rattle.thread.specs.View.{view_thread, thread_times};
+ghost use Rattle.thread.specs.Times.{thread_times};
 
 use super::ThreadRow;
-use crate::begins::least_begin;
-use crate::limits::{MOST_OPEN, MOST_OUTSTANDING};
-use semantics::class::OpClass;
-use semantics::row::{Epoch, Operation};
+use arrayvec::ArrayVec;
 
 impl ThreadRow {
     // Nothing is outstanding or open, and the clock is 0.
     pub fn new() -> ThreadRow
-        ensures state { view_thread result ≡ idle }
-        ensures held { result.held ≡ 0 }
+        ensures { result ≡ idle }
     {
         ThreadRow {
             clock: 0,
             commits: 0,
-            outstanding: [Operation {
-                number: 0,
-                class: OpClass::Load,
-                place: 0,
-                value: 0,
-            }; MOST_OUTSTANDING],
-            pending: 0,
-            epochs: [Epoch {
-                writes: false,
-                place: 0,
-                from: 0,
-                start: 0,
-                copy: 0,
-                used: 0,
-            }; MOST_OPEN],
-            held: 0,
+            outstanding: ArrayVec::new(),
+            epochs: ArrayVec::new(),
         }
     }
 
     // The least of a time, the clock and the begins of the open epochs.
     pub fn earliest(&self, time: u64) -> u64
-        ensures { result ≡ fold min time (thread_times (view_thread self.now)) }
+        ensures { result ≡ fold min time (thread_times self.now) }
     {
-        least_begin(&self.epochs[0..self.held], time.min(self.clock))
+        self.epochs
+            .iter()
+            .map(|e| e.from)
+            .fold(time.min(self.clock), |a, b| a.min(b))
     }
 
     // Nothing is outstanding or open.
     pub fn is_idle(&self) -> bool
-        ensures { result ≡ (length (view_thread self.now).pending + length (view_thread self.now).epochs == 0) }
+        ensures { result ≡ (length self.now.pending + length self.now.epochs == 0) }
     {
-        self.pending == 0 && self.held == 0
+        self.outstanding.is_empty() && self.epochs.is_empty()
     }
 
     // How many more operations can be outstanding.
     pub fn spare(&self) -> u64
-        ensures { result ≡ free_places (view_thread self.now) }
+        ensures { result ≡ free_places self.now }
     {
-        (MOST_OUTSTANDING - self.pending) as u64
+        self.outstanding.remaining_capacity() as u64
+    }
+}
+
+// Written out, so that its clause is the idle thread of the meaning.
+impl Default for ThreadRow {
+    ghost is_default = { λ w. w ≡ idle };
+
+    fn default() -> ThreadRow {
+        ThreadRow::new()
     }
 }

@@ -3,20 +3,17 @@ ghost use Rattle.std.specs.Prelude.{◌≡◌, ◌<◌, ◌≤◌, length, Some}
 ghost use Rattle.semantics.specs.Effect.{touch as touch_by};
 ghost use Rattle.semantics.specs.Puts.{put_clock, put_epochs};
 ghost use Rattle.thread.specs.Performing.{used_at, Within, retired};
-ghost use Rattle.thread.specs.View.{view_thread};
 
 use super::ThreadRow;
-use crate::matching::Numbered;
 use crate::served::Served;
 use semantics::row::{Epoch, Operation};
 
 impl ThreadRow {
-    // The operation performs: it is no longer outstanding, the epoch that it uses changes, and the clock is the time.
+    // An operation performs: it is no longer outstanding, the epoch that it uses changes, and the clock is the time.
     pub fn perform(&mut self, op: Operation, served: Served, time: u64)
-        requires within { Within served.uses (length (view_thread self.old).epochs) }
+        requires within { Within served.uses (length self.old.epochs) }
         requires time { self.old.clock ≤ time }
-        ensures held { self.new.held ≡ self.old.held }
-        ensures state { view_thread self.new ≡ put_clock (put_epochs (retired op.number (view_thread self.old)) (used_at time op served.uses (view_thread self.old).epochs)) time }
+        ensures { self.new ≡ put_clock (put_epochs (retired op.number self.old) (used_at time op served.uses self.old.epochs)) time }
     {
         self.retire(op.number);
         if let Some(i) = served.uses {
@@ -25,47 +22,44 @@ impl ThreadRow {
         self.raise(time);
     }
 
-    // The clock is the time.
+    // The clock is the time, which no step may put back: each says so, since a type for the time would have to hold the thread.
     pub fn raise(&mut self, time: u64)
         requires { self.old.clock ≤ time }
-        ensures held { self.new.held ≡ self.old.held }
-        ensures state { view_thread self.new ≡ put_clock (view_thread self.old) time }
+        ensures { self.new ≡ put_clock self.old time }
     {
         self.clock = time;
     }
 
-    // The operation is no longer outstanding.
+    // The operation of a number is no longer outstanding, where there was one.
     fn retire(&mut self, number: u64)
-        ensures clock { self.new.clock ≡ self.old.clock }
-        ensures held { self.new.held ≡ self.old.held }
-        ensures state { view_thread self.new ≡ retired number (view_thread self.old) }
+        ensures { self.new ≡ retired number self.old }
     {
-        self.pending = rows::remove(&mut self.outstanding, self.pending, &Numbered { number });
+        if let Some(i) = self.operation(number) {
+            self.outstanding.remove(i);
+        }
     }
 
     // What writes puts its value into the copy; the last use is the time.
     fn touch(&mut self, i: usize, op: Operation, time: u64)
-        requires within { i < self.old.held }
+        requires within { i < length self.old.epochs }
         requires time { self.old.clock ≤ time }
-        ensures clock { self.new.clock ≡ self.old.clock }
-        ensures held { self.new.held ≡ self.old.held }
-        ensures state { view_thread self.new ≡ put_epochs (view_thread self.old) (used_at time op (Some i) (view_thread self.old).epochs) }
+        ensures { self.new ≡ put_epochs self.old (used_at time op (Some i) self.old.epochs) }
     {
         self.epochs[i] = touched(self.epochs[i], op, time);
     }
 }
 
+// An epoch that an operation uses at a time.
 fn touched(epoch: Epoch, op: Operation, time: u64) -> Epoch
     ensures { result ≡ touch_by time op epoch }
 {
-    if op.class.writes() {
-        return Epoch {
-            copy: op.value,
-            used: time,
-            ..epoch
-        };
-    }
+    let copy = if op.class.writes() {
+        op.value
+    } else {
+        epoch.copy
+    };
     Epoch {
+        copy,
         used: time,
         ..epoch
     }

@@ -1,28 +1,26 @@
 // When a thread refuses a call, and the steps that break no law.
-ghost use Rattle.std.specs.Prelude.{◌≡◌, ℕ, ◌+◌, ◌<◌, ◌≤◌, Some, None, MatchResult, nat_eq};
-ghost use Rattle.std.specs.Option.{is_some};
-ghost use Rattle.ordering.specs.Classes.{known_class};
-ghost use Rattle.rows.specs.Found.{Found};
-ghost use Rattle.semantics.specs.Classes.{op_class, of_face, operation};
+ghost use Rattle.std.specs.Prelude.{◌≡◌, ℕ, ◌+◌, ◌<◌, ◌≤◌, length, position, filter, not, Some, None, OnOk, MatchResult, nat_eq, nat_le, ◌==◌};
+ghost use Rattle.semantics.specs.Classes.{op_class};
 ghost use Rattle.semantics.specs.Lists.{first_of};
 ghost use Rattle.semantics.specs.Puts.{committed as committed_by};
-ghost use Rattle.semantics.specs.State.{outstanding_as, epoch_at};
-ghost use Rattle.thread.specs.Performing.{with_epoch, without_epoch};
+ghost use Rattle.thread.specs.Performing.{with_epoch, without_epoch, Performs, Begins, Ends};
+ghost use Rattle.thread.specs.Results.{unless};
 ghost use Rattle.thread.specs.Tests.{advance_tests, commit_tests, perform_tests, begin_tests, end_tests, committed_row};
-ghost use Rattle.thread.specs.View.{view_thread};
 
 use super::ThreadRow;
-use crate::limits::{KINDS, MOST_COMMITS, MOST_OPEN, MOST_OUTSTANDING, PLACES};
-use crate::matching::At;
+use crate::limits::{MOST_COMMITS, MOST_OPEN, PLACES};
+use arrayvec::ArrayVec;
 use ordering::class::Class;
 use semantics::class::OpClass;
+use semantics::kind::EpochKind;
 use semantics::row::{Epoch, Operation};
 use semantics::verdict::{Limit, Refusal};
 
 impl ThreadRow {
     // Refusal 7.
     pub fn may_advance(&self, time: u64) -> Result<(), Refusal>
-        ensures { MatchResult result (λ _. (first_of (advance_tests time (view_thread self.now)) ≡ None) × (self.now.clock ≤ time)) (λ f. first_of (advance_tests time (view_thread self.now)) ≡ Some f) }
+        ensures answer { result ≡ unless (first_of (advance_tests time self.now)) }
+        ensures time { OnOk result (self.now.clock ≤ time) }
     {
         if time < self.clock {
             return Err(Refusal::PastTime);
@@ -32,16 +30,15 @@ impl ThreadRow {
 
     // The class, or why the commit is refused.
     pub fn may_commit(&self, class: u64, place: u64) -> Result<OpClass, Refusal>
-        ensures { MatchResult result (λ k. (first_of (commit_tests class place (view_thread self.now)) ≡ None) × (k ≡ op_class class) × (self.now.pending < 64) × (self.now.commits < 1000000)) (λ f. first_of (commit_tests class place (view_thread self.now)) ≡ Some f) }
+        ensures answer { MatchResult result (λ k. (first_of (commit_tests class place self.now) ≡ None) × (k ≡ op_class class)) (λ f. first_of (commit_tests class place self.now) ≡ Some f) }
+        ensures room { OnOk result (length self.now.pending < 64) }
+        ensures more { OnOk result (self.now.commits < 1000000) }
     {
-        let Some(class) = Class::from_number(class) else {
-            return Err(Refusal::UnknownClass);
-        };
-        let class = op_class(class);
+        let class = OpClass::from(Class::try_from(class)?);
         if class.touches() && place >= PLACES as u64 {
             return Err(Refusal::UnknownPlace);
         }
-        if self.pending >= MOST_OUTSTANDING {
+        if self.outstanding.is_full() {
             return Err(Refusal::Over(Limit::Outstanding));
         }
         if self.commits >= MOST_COMMITS {
@@ -52,119 +49,106 @@ impl ThreadRow {
 
     // The operation is outstanding under the next number.
     pub fn commit(&mut self, class: OpClass, place: u64, value: u64) -> u64
-        requires { (self.old.pending < 64) × (self.old.commits < 1000000) }
+        requires room { length self.old.pending < 64 }
+        requires more { self.old.commits < 1000000 }
         ensures answer { result ≡ self.old.commits }
-        ensures held { self.new.held ≡ self.old.held }
-        ensures state { view_thread self.new ≡ committed_by (view_thread self.old) (committed_row self.old.commits class place value) }
+        ensures state { self.new ≡ committed_by self.old (committed_row self.old.commits class place value) }
     {
         let number = self.commits;
-        self.outstanding[self.pending] = committed(number, class, place, value);
-        self.pending += 1;
+        self.outstanding
+            .push(committed(number, class, place, value));
         self.commits += 1;
         number
     }
 
     // The operation, or why its perform is refused.
     pub fn may_perform(&self, number: u64, time: u64) -> Result<Operation, Refusal>
-        ensures { MatchResult result (λ o. (first_of (perform_tests number time (view_thread self.now)) ≡ None) × (outstanding_as (view_thread self.now) number ≡ Some o) × (self.now.clock ≤ time)) (λ f. first_of (perform_tests number time (view_thread self.now)) ≡ Some f) }
+        ensures { MatchResult result (λ o. Performs self.now number time o) (λ f. first_of (perform_tests number time self.now) ≡ Some f) }
     {
-        if time < self.clock {
-            return Err(Refusal::PastTime);
-        }
-        match self.operation(number) {
-            Some(i) => Ok(self.outstanding[i]),
-            None => Err(Refusal::NotOutstanding),
-        }
+        self.may_advance(time)?;
+        let Some(i) = self.operation(number) else {
+            return Err(Refusal::NotOutstanding);
+        };
+        Ok(self.operation_in(i))
     }
 
-    // Refusals 5, 6, 7, 9 and limit 3.
-    pub fn may_begin(&self, kind: u64, place: u64, time: u64) -> Result<(), Refusal>
-        ensures { MatchResult result (λ _. (first_of (begin_tests kind place time (view_thread self.now)) ≡ None) × (place < 512) × (self.now.clock ≤ time) × (self.now.held < 32)) (λ f. first_of (begin_tests kind place time (view_thread self.now)) ≡ Some f) }
+    // The kind of the epoch, or why the begin is refused.
+    pub fn may_begin(&self, kind: u64, place: u64, time: u64) -> Result<EpochKind, Refusal>
+        ensures { MatchResult result (λ k. Begins self.now kind place time k) (λ f. first_of (begin_tests kind place time self.now) ≡ Some f) }
     {
-        if kind >= KINDS {
-            return Err(Refusal::UnknownClass);
-        }
+        let kind = EpochKind::try_from(kind)?;
         if place >= PLACES as u64 {
             return Err(Refusal::UnknownPlace);
         }
-        if time < self.clock {
-            return Err(Refusal::PastTime);
-        }
-        if let Some(_) = self.epoch(place) {
+        self.may_advance(time)?;
+        if self.epoch(place).is_some() {
             return Err(Refusal::AlreadyBegun);
         }
-        if self.held >= MOST_OPEN {
+        if self.epochs_are_full() {
             return Err(Refusal::Over(Limit::Open));
         }
-        Ok(())
+        Ok(kind)
+    }
+
+    // Whether as many epochs are open as can be.
+    fn epochs_are_full(&self) -> bool
+        ensures { result ≡ nat_le 32 (length self.now.epochs) }
+    {
+        self.epochs.len() >= MOST_OPEN
     }
 
     // The epoch is open, and the clock is its begin.
     pub fn begin(&mut self, epoch: Epoch)
-        requires room { self.old.held < 32 }
+        requires room { length self.old.epochs < 32 }
         requires time { (self.old.clock ≤ epoch.from) × (epoch.from ≤ epoch.used) }
-        ensures held { self.new.held ≡ self.old.held + 1 }
-        ensures state { view_thread self.new ≡ with_epoch epoch (view_thread self.old) }
+        ensures { self.new ≡ with_epoch epoch self.old }
     {
-        self.epochs[self.held] = epoch;
-        self.held += 1;
+        self.epochs.push(epoch);
         self.clock = epoch.from;
     }
 
     // The row of the epoch that may end, or why the end is refused.
     pub fn may_end(&self, place: u64, time: u64) -> Result<usize, Refusal>
-        ensures { MatchResult result (λ i. (first_of (end_tests place time (view_thread self.now)) ≡ None) × Found (λ e. nat_eq e.place place) (view_thread self.now).epochs i × (self.now.clock ≤ time)) (λ f. first_of (end_tests place time (view_thread self.now)) ≡ Some f) }
+        ensures { MatchResult result (λ i. Ends self.now place time i) (λ f. first_of (end_tests place time self.now) ≡ Some f) }
     {
         if place >= PLACES as u64 {
             return Err(Refusal::UnknownPlace);
         }
-        if time < self.clock {
-            return Err(Refusal::PastTime);
-        }
-        match self.epoch(place) {
-            Some(i) => Ok(i),
-            None => Err(Refusal::NotOpen),
-        }
+        self.may_advance(time)?;
+        self.epoch(place).ok_or(Refusal::NotOpen)
     }
 
     // The epoch of a place is no longer open, and the clock is the time.
     pub fn end(&mut self, place: u64, time: u64)
         requires { self.old.clock ≤ time }
-        ensures held { (i : ℕ) → Found (λ e. nat_eq e.place place) (view_thread self.old).epochs i → self.new.held + 1 ≤ self.old.held }
-        ensures state { view_thread self.new ≡ without_epoch place time (view_thread self.old) }
+        ensures fewer { (i : ℕ) → position (λ e. nat_eq e.place place) self.old.epochs ≡ Some i → length self.new.epochs + 1 ≤ length self.old.epochs }
+        ensures state { self.new ≡ without_epoch place time self.old }
     {
-        self.held = rows::remove(&mut self.epochs, self.held, &At { place });
+        drop_place(&mut self.epochs, place);
         self.clock = time;
     }
 }
 
-// The class of an operation that a rule sees so.
-fn op_class(class: Class) -> OpClass
-    ensures { result ≡ of_face class }
+// The epochs without that of a place.
+fn drop_place(epochs: &mut ArrayVec<Epoch, MOST_OPEN>, place: u64)
+    ensures { epochs.new.items ≡ filter (λ e. not (e.place == place)) epochs.old.items }
 {
-    match class {
-        Class::Load => OpClass::Load,
-        Class::Store => OpClass::Store,
-        Class::Barrier(mask) => OpClass::Barrier(mask),
-    }
+    epochs.retain(|e| e.place != place);
 }
 
 // What a commit writes down. A barrier's place and value are not looked at.
 fn committed(number: u64, class: OpClass, place: u64, value: u64) -> Operation
     ensures { result ≡ committed_row number class place value }
 {
-    if class.touches() {
-        return Operation {
-            number,
-            class,
-            place,
-            value,
-        };
-    }
+    let (place, value) = if class.touches() {
+        (place, value)
+    } else {
+        (0, 0)
+    };
     Operation {
         number,
         class,
-        place: 0,
-        value: 0,
+        place,
+        value,
     }
 }

@@ -2,7 +2,6 @@
 ghost use Rattle.std.specs.Prelude.{◌≡◌, []};
 ghost use Rattle.semantics.specs.State.{made};
 ghost use Rattle.semantics.specs.Trace.{Follows};
-ghost use Rattle.watch.specs.Took.{held};
 
 use super::Watch;
 use crate::threads::Threads;
@@ -12,9 +11,9 @@ use table::table::Table;
 impl<R: OrderingRule> Watch<R> {
     // A watch that has met no call. It can't be refused: the number of threads is checked before.
     pub fn new(rule: R, threads: Threads) -> Watch<R>
-        ensures state { (held result).state ≡ made threads.count }
-        ensures same { (held result).rule ≡ rule }
-        ensures history { Follows (R.OrderingRule.orders rule) threads.count [] (held result).state }
+        ensures state { result.state ≡ made threads.count }
+        ensures same { result.rule ≡ rule }
+        ensures history { Follows (R.OrderingRule.orders rule) threads.count [] result.state }
     {
         Watch {
             rule,

@@ -1,9 +1,14 @@
-use Rattle.std.proofs.Common.{arith, rules}
-use Rattle.fields.proofs.Splitting.{split_at, split_last}
+use Rattle.std.proofs.Common.{◌+◌, ◌∷◌, take, drop, sym, ap, ◌∙◌, arith, length-drop, take_all}
+use Rattle.fields.specs.Splits.{split}
+use Rattle.fields.proofs.Splitting.{split_at, split_without}
 use Rattle.fields.proofs.cut.cut.Goals as goal
 
-pub returns-then-b-mark : goal.returns-then-b-mark
-returns-then-b-mark c = record { value = split_at c.args.mark c.args.text.now c.loop-i.i c.loop-i-test.true c.if-b-mark.true c.loop-i.invariant; bound = search rules }
+pub returns-in_err-at-clause-value : goal.returns-in_err-at-clause-value
+returns-in_err-at-clause-value c = rw c.from_residual.ensures (split_without _ _ (sym c.first_at.ensures ∙ c.in_err-at.was))
 
-pub returns : goal.returns
-returns c = record { value = split_last c.args.mark c.args.text.now (λ k h. c.loop-i.invariant k (omega arith)); bound = tt }
+pub returns-clause-value : goal.returns-clause-value
+returns-clause-value c =
+    let text = c.args.text.now in
+    let at = c.in_ok-at.at in
+    split_at c.args.mark text at (sym c.first_at.ensures ∙ c.in_ok-at.was)
+    ∙ ap (λ rest. take at text ∷ split c.args.mark rest) (sym (take_all _ (drop (at + 1) text) (omega (arith, length-drop (at + 1) text))))

@@ -1,6 +1,7 @@
-use Rattle.std.proofs.Common.{IsUtf8, sym, subst}
-use Rattle.event.proofs.Wording.{kind_none, utf8_word}
+use Rattle.fields.proofs.Spelling.{among_from_parse}
+use Rattle.event.specs.Kinds.{word_of, kinds}
+use Rattle.event.proofs.Wording.{utf8_word}
 use Rattle.event.proofs.event.EventKind.from_word.Goals as goal
 
-pub returns-in-Err : goal.returns-in-Err
-returns-in-Err c = sym (kind_none c.args.word.now (λ n e. c.in-Err.ensures.cases.0 (subst IsUtf8 (sym e) (utf8_word n))))
+pub returns : goal.returns
+returns c = among_from_parse word_of (record {}) kinds c.args.word.now c.parse_field.result c.parse_field.ensures utf8_word

@@ -1,11 +1,9 @@
-use Rattle.table.proofs.Settling.{idle_more, busy_one, idle_all}
+use Rattle.std.proofs.Common.{rules}
+use Rattle.table.proofs.Threads.{busy_is}
 use Rattle.table.proofs.table.Table.is_idle.Goals as goal
 
-pub returns-then-not-is_idle : goal.returns-then-not-is_idle
-returns-then-not-is_idle c = busy_one c.args.self.now c.loop-t.t c.index-self-t.result c.loop-t-test.true c.if-not-is_idle.ensures c.loop-t.invariant
+pub returns-then-are_idle : goal.returns-then-are_idle
+returns-then-are_idle c = rw (← c.self.view_is, c.is_empty.ensures, ← busy_is (Rattle.table.specs.contracts.table.Table.the_view c.self.inside)) (search rules)
 
-pub loop-t-preserved : goal.loop-t-preserved
-loop-t-preserved c = idle_more c.args.self.now c.loop-t.t c.index-self-t.result c.loop-t-test.true c.if-not-is_idle.ensures c.loop-t.invariant
-
-pub returns : goal.returns
-returns c = idle_all c.args.self.now c.loop-t.t c.loop-t-test.false c.loop-t.invariant
+pub returns-else-are_idle : goal.returns-else-are_idle
+returns-else-are_idle c = rw (← c.self.view_is, ← busy_is (Rattle.table.specs.contracts.table.Table.the_view c.self.inside)) (search rules)

@@ -1,29 +1,18 @@
-use Rattle.std.proofs.Common.{List, refl, ap, arith}
-use Rattle.semantics.specs.State.{Thread, made}
-use Rattle.table.proofs.Making.{idle_threads, none_open}
-use Rattle.table.proofs.Rows.{with_threads}
+use Rattle.std.proofs.Common.{length, ap, ◌∙◌, refl, rules, arith}
+use Rattle.std.proofs.lemmas.List.{length-replicate}
+use Rattle.semantics.specs.State.{idle}
+use Rattle.table.proofs.Threads.{open_idle}
 use Rattle.table.proofs.table.Table.new.Goals as goal
 
 pub invariant_of-result : goal.invariant_of-result
 invariant_of-result c =
-    let n = c.args.count in
-    let o = none_open n c.new.result c.requires.1 c.new.ensures.held in
+    let n = c.loop.counter in
+    let many = ap length c.loop.invariant ∙ length-replicate n idle in
+    let none = open_idle c.loop.threads.items n c.loop.invariant in
     record {
-      threads_long = refl;
-      count_fits = c.requires.1;
-      count_some = c.requires.0;
+      some_threads = omega (arith, many, c.requires, c.loop-test.false, c.loop.auto.counter-end);
       homes_long = refl;
-      owed_long = refl;
-      owing_fits = omega arith;
-      waiting_long = refl;
-      queued_fits = omega arith;
-      heaped = λ k d h. absurd (let a = h.0 in let b = h.1 in omega arith);
       begins_fit = omega arith;
-      ends_fit = omega arith;
-      accounts_fit = omega arith;
+      ends_fit = omega (arith, none);
+      accounts_fit = search rules;
     }
-
-pub returns : goal.returns
-returns c =
-    let n = c.args.count in
-    ap (λ (ts : List Thread). with_threads ts (made n)) (idle_threads n c.new.result c.requires.1 c.new.ensures.state)

@@ -1,19 +1,9 @@
-use Rattle.std.proofs.Common.{◌≡◌, None}
-use Rattle.std.specs.List.{find}
-use Rattle.rows.specs.Found.{Found}
-use Rattle.rows.proofs.Counted.{whole}
-use Rattle.table.proofs.Notices.{numbered, drop_free, drop_refused}
+use Rattle.std.proofs.Common.{eqb, ap, ◌∙◌}
+use Rattle.std.specs.List.{position}
+use Rattle.table.proofs.Notices.{owes_by}
 use Rattle.table.proofs.table.Table.owes.Goals as goal
 
-pub returns-in-Some : goal.returns-in-Some
-returns-in-Some c =
-    let s = c.args.self.now in
+pub returns : goal.returns
+returns c =
     let n = c.args.number in
-    let f = whole (λ ys. Found (numbered n) ys c.in-Some.i) s.owing s.owed c.in-Some.ensures in
-    (drop_free s n c.in-Some.i f, f)
-
-pub returns-in-None : goal.returns-in-None
-returns-in-None c =
-    let s = c.args.self.now in
-    let n = c.args.number in
-    drop_refused s n (whole (λ ys. find (numbered n) ys ≡ None) s.owing s.owed c.in-None.ensures)
+    rw c.ok_or.ensures.value (owes_by c.args.self.now n c.row_of.result (c.row_of.ensures ∙ ap (position (λ e. eqb e.number n)) c.deref.ensures.0 ∙ ap (λ s. position (λ e. eqb e.number n) s.owed) c.self.view_is))

@@ -1,15 +1,6 @@
-use Rattle.semantics.specs.Calls
-use Rattle.table.specs.Views.{view, told}
 use Rattle.semantics.specs.Laws.{by_rule}
-use Rattle.watch.proofs.Promising.{promised}
 use Rattle.watch.proofs.Taking.{took}
 use Rattle.watch.proofs.watch.Watch.advance.Goals as goal
 
-pub returns : goal.returns
-returns g c =
-    let orders = g.R.OrderingRule.orders in
-    let rule = c.args.self.now.rule in
-    let s = view c.args.self.now.table in
-    let a = told (λ _. Calls.taken 0) c.advance.result in
-    let m = c.advance.ensures (by_rule (orders rule)) in
-    record { took = took orders rule s (Calls.advance c.args.thread c.args.time) a _ m; promises = promised orders rule s (Calls.advance c.args.thread c.args.time) a _ m }
+pub returns-clause-took : goal.returns-clause-took
+returns-clause-took g c = took g.R.OrderingRule.orders _ c.args.self.now _ _ _ c.self.view_is (c.advance.ensures (by_rule (g.R.OrderingRule.orders c.self.inside.rule)))

@@ -1,26 +1,12 @@
 use Rattle.std.proofs.lemmas.Result.{err_from_is_err_and}
-use Rattle.semantics.specs.Calls
 use Rattle.semantics.specs.Laws.{by_rule}
-use Rattle.table.specs.Views.{view}
-use Rattle.watch.proofs.Promising.{promised}
 use Rattle.watch.proofs.Taking.{took}
 use Rattle.watch.proofs.watch.Watch.end.Goals as goal
 
-pub returns-in_err-number : goal.returns-in_err-number
-returns-in_err-number g c =
-    let orders = g.R.OrderingRule.orders in
-    let rule = c.args.self.now.rule in
-    let s = view c.args.self.now.table in
-    let call = Calls.end c.args.thread c.args.place c.args.value c.args.time in
+pub returns-in_err-number-clause-took : goal.returns-in_err-number-clause-took
+returns-in_err-number-clause-took g c =
     let p = err_from_is_err_and c.from_residual.result c.from_residual.ensures.1 in
-    let m = c.in_err-number.ensures (by_rule (orders rule)) in
-    rw (p.1, p.2) (record { took = took orders rule s call _ _ m; promises = promised orders rule s call _ _ m })
+    rw (p.1, p.2) (took g.R.OrderingRule.orders _ c.args.self.now _ _ _ c.self.view_is (c.in_err-number.ensures (by_rule (g.R.OrderingRule.orders c.self.inside.rule))))
 
-pub returns : goal.returns
-returns g c =
-    let orders = g.R.OrderingRule.orders in
-    let rule = c.args.self.now.rule in
-    let s = view c.args.self.now.table in
-    let call = Calls.end c.args.thread c.args.place c.args.value c.args.time in
-    let m = c.in_ok-number.ensures (by_rule (orders rule)) in
-    record { took = took orders rule s call _ _ m; promises = promised orders rule s call _ _ m }
+pub returns-clause-took : goal.returns-clause-took
+returns-clause-took g c = took g.R.OrderingRule.orders _ c.args.self.now _ _ _ c.self.view_is (c.in_ok-number.ensures (by_rule (g.R.OrderingRule.orders c.self.inside.rule)))

@@ -1,25 +1,12 @@
-use Rattle.std.proofs.Common.{refl}
-use Rattle.semantics.specs.Calls
 use Rattle.semantics.specs.Laws.{by_rule}
-use Rattle.table.specs.Views.{view}
-use Rattle.watch.proofs.Promising.{promised}
 use Rattle.watch.proofs.Taking.{took}
+use Rattle.watch.proofs.watch.Watch.report.Goals.{in-Ok, in-Err}
 use Rattle.watch.proofs.watch.Watch.report.Goals as goal
 
-pub returns-in-Ok : goal.returns-in-Ok
-returns-in-Ok g c =
-    let orders = g.R.OrderingRule.orders in
-    let rule = c.args.self.now.rule in
-    let s = view c.args.self.now.table in
-    let call = Calls.report c.args.notice.number in
-    let m = c.in-Ok.ensures (by_rule (orders rule)) in
-    record { took = took orders rule s call _ _ m; promises = promised orders rule s call _ _ m; back = tt }
-
-pub returns-in-Err : goal.returns-in-Err
-returns-in-Err g c =
-    let orders = g.R.OrderingRule.orders in
-    let rule = c.args.self.now.rule in
-    let s = view c.args.self.now.table in
-    let call = Calls.report c.args.notice.number in
-    let m = c.in-Err.ensures (by_rule (orders rule)) in
-    record { took = took orders rule s call _ _ m; promises = promised orders rule s call _ _ m; back = refl }
+pub returns-clause-took : goal.returns-clause-took
+returns-clause-took g c =
+    let B = by_rule (g.R.OrderingRule.orders c.self.inside.rule) in
+    elim c.match-report.branch [
+      | in-Ok w ↦ rw w.result-is (took g.R.OrderingRule.orders _ c.args.self.now _ _ _ c.self.view_is (w.in-Ok.ensures B))
+      | in-Err w ↦ rw w.result-is (took g.R.OrderingRule.orders _ c.args.self.now _ _ _ c.self.view_is (w.in-Err.ensures B))
+    ]
