@@ -15,7 +15,7 @@ use watch::watch::Watch;
 // the pairs of which the bytes are missing are ordered.
 const RULE: [u8; 19] = [1, 1, 1, 1, 1, 1, 1, 1, 1, 1, 1, 1, 1, 1, 1, 1, 1, 1, 0];
 
-// The numbers of classes and kinds, as the calls of a watch take them. Made from a class they would be no plainer: a barrier's takes a mask.
+// The numbers of classes and kinds, as a recording has them and as the calls of a watch take them: a program that stands for a recorder writes numbers.
 const LOAD: u64 = 0;
 
 const STORE: u64 = 1;

@@ -1,4 +1,4 @@
-// How a home judges an ended epoch.
+// How a home judges an ended epoch: functions of the two, as the laws of the meaning are.
 ghost use Rattle.std.specs.Prelude.{◌≡◌, Some, None, MatchResult};
 ghost use Rattle.semantics.specs.Judging.{bar, home_laws, judged_home};
 
@@ -7,6 +7,7 @@ use semantics::row::Home;
 use semantics::verdict::{Conviction, Law};
 
 // Laws 27 and 28. The two convictions are written out: they share two fields of four.
+// A home and a row are two parameters here and below, as in the laws of the meaning.
 pub fn keeps_home(home: Home, row: EndedRow) -> Result<(), Conviction>
     ensures { MatchResult result (λ _. home_laws home row ≡ None) (λ c. home_laws home row ≡ Some c) }
 {

@@ -26,7 +26,7 @@ impl EventKind {
         }
     }
 
-    // The kind of event that a word of bytes names, if it names one. A From could not say none.
+    // The kind of event that a word of bytes names, if it names one: a name for the generic parse, no plainer as a TryFrom with an error that is dropped.
     pub fn from_word(word: &[u8]) -> Option<EventKind>
         ensures { result ≡ kind_named word.now }
     {

@@ -13,7 +13,7 @@ use semantics::verdict::{Conviction, Law};
 use text::reader::Entry;
 use verdict::verdict::Verdict;
 
-// What the commit that an event is states.
+// What the commit that an event is states. This and the next two make three types from three variants, so one function of them would be no plainer.
 fn as_commit(entry: Entry) -> Option<Commit>
     ensures { result ≡ commit_of entry.event }
 {

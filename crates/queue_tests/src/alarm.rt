@@ -1,4 +1,4 @@
-// A row of four fields. Its order is that of the fields in turn.
+// A row of four fields, one of them a flag, so that the order of flags is tried. Its order is that of the fields in turn.
 ghost use Rattle.queue_tests.specs.Exact.{alarm_exact};
 
 use queue::TotalOrder;

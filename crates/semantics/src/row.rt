@@ -23,7 +23,7 @@ pub struct Epoch {
 }
 
 // An ended epoch under the number of its notice: it lasted from `from` until `until`, and its value went from `start` to `last`.
-// Rows are ordered by their fields in turn: by begin, then by number.
+// Rows are ordered by their fields in turn: by begin, then by number. `writes` is the one question that judging asks of its kind.
 #[derive(Clone, Copy, PartialEq, Eq, PartialOrd, Ord, Debug)]
 pub struct Ended {
     pub from: u64,

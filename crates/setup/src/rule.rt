@@ -9,7 +9,7 @@ use fields::parse::{UnknownWord, parse_field};
 use std::str::FromStr;
 
 impl RuleName {
-    // The rule's name, as a trace writes it: the literal by which the named rules pick themselves.
+    // The rule's name, as a trace writes it: the literal by which the named rules pick themselves. No Display, since the text itself is parsed again.
     pub fn name(self) -> &'static str
         ensures { result.now ≡ name_of self }
     {
@@ -21,7 +21,7 @@ impl RuleName {
         }
     }
 
-    // The rule that a field names, if it names one.
+    // The rule that a field names, if it names one: a name for the generic parse, as an event's word has.
     pub fn from_bytes(field: &[u8]) -> Option<RuleName>
         ensures { result ≡ rule_named field.now }
     {

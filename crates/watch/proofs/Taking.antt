@@ -14,6 +14,7 @@ use Rattle.watch.specs.Took.{Held, Took, event}
 pub grows : (R : Rule) (s : State) (c : Call) (a : Answer) (s' : State) → Meets (by_rule R) s c a s' → (n : ℕ) (tr : Trace) → Follows R n tr s → Follows R n (event c a ∷ tr) s'
 grows R s c a s' m n tr f = subst (λ (o : Outcome). Follows R n (event c o.answer ∷ tr) o.state) (sym m) (met f c)
 
+-- Cited once for each call, since the search does not find the rule of the step.
 pub took : {X : Type 0} (orders : X → Rule) (before now : Held X) (c : Call) (a : Answer) (s' : State) → before ≡ now → Meets (by_rule (orders before.rule)) before.state c a s' → Took orders now c a (record { rule = before.rule; state = s' })
 took orders before now c a s' h m =
     let R = orders before.rule in

@@ -1,5 +1,6 @@
 // The calls that can break no law: preset, advance, commit and begin.
 // Classes and kinds come as numbers, since to refuse an unknown one is the watch's.
+// Each check stands apart from its call, since a refused call leaves all as it was.
 ghost use Rattle.std.specs.Prelude.{◌≡◌, ◌<◌, None, Some, MatchResult};
 ghost use Rattle.semantics.specs.Calls.{preset, advance, commit, begin, taken};
 ghost use Rattle.semantics.specs.Kinds.{kind_writes};

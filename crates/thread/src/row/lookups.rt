@@ -29,7 +29,7 @@ impl ThreadRow {
         self.outstanding[i]
     }
 
-    // The open epoch in a row that a lookup answered.
+    // The open epoch in a row that a lookup answered: an Option of an index, whose bound each reader asks for.
     pub fn epoch_in(&self, i: usize) -> Epoch
         requires { i < length self.now.epochs }
         ensures { result ≡ epoch_in self.now i }

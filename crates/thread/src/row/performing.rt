@@ -49,7 +49,7 @@ impl ThreadRow {
     }
 }
 
-// An epoch that an operation uses at a time.
+// An epoch that an operation uses at a time. A function of its own, as `touch` of the meaning is.
 fn touched(epoch: Epoch, op: Operation, time: u64) -> Epoch
     ensures { result ≡ touch_by time op epoch }
 {

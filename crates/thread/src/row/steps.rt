@@ -1,4 +1,5 @@
-// When a thread refuses a call, and the steps that break no law.
+// When a thread refuses a call, and the steps that break no law. Each check stands apart from its step, since a refused call leaves all as it was;
+// its clause says side by side what was found and what is refused.
 ghost use Rattle.std.specs.Prelude.{◌≡◌, ℕ, ◌+◌, ◌<◌, ◌≤◌, length, position, filter, not, Some, None, OnOk, MatchResult, nat_eq, nat_le, ◌==◌};
 ghost use Rattle.semantics.specs.Classes.{op_class};
 ghost use Rattle.semantics.specs.Lists.{first_of};
@@ -90,7 +91,7 @@ impl ThreadRow {
         Ok(kind)
     }
 
-    // Whether as many epochs are open as can be.
+    // Whether as many epochs are open as can be: by the limit, as the commits are tested.
     fn epochs_are_full(&self) -> bool
         ensures { result ≡ nat_le 32 (length self.now.epochs) }
     {

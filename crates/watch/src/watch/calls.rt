@@ -1,4 +1,4 @@
-// The calls of a watch, on whatever numbers. Each has its two clauses whole, so that what it answers and promises is read there.
+// The calls of a watch, on whatever numbers: the parameters are the subject's own. Each has its two clauses whole, so that what it answers and promises is read there.
 ghost use Rattle.std.specs.Prelude.{◌≡◌};
 ghost use Rattle.semantics.specs.Calls.{preset, commit, perform, advance, begin, end, report, drop, settle, close, taken};
 ghost use Rattle.semantics.specs.Calls as calls;
