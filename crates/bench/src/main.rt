@@ -13,7 +13,7 @@ const OPERATIONS: u64 = 1000;
 
 // The work, which has to end clean.
 fn worked(rt: &HostRuntime, operations: Operations) -> anyhow::Result<Done> {
-    // A match, as in report of the work.
+    // A match, as in `report` of work.rt.
     match work(operations) {
         Ok(done) => Ok(done),
         Err(fault) => Err(anyhow!(format!(in rt.alloc(); "a call was not taken: {fault:?}")?)),

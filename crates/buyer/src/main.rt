@@ -86,7 +86,7 @@ fn source(load: Performed) -> &'static str {
     }
 }
 
-// As above.
+// The same for what a watch has concluded.
 fn word(verdict: Verdict) -> &'static str {
     match verdict {
         Verdict::Running => "running",

@@ -53,7 +53,6 @@ impl EndedRow {
     }
 }
 
-// What stands in a place that no epoch has.
 // What stands in a place that no epoch has. Written out, since a derived default would make a span of 0 and 0, whose begin is not below its end.
 impl Default for EndedRow {
     ghost use Rattle.std.specs.Prelude.{false};
