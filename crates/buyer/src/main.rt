@@ -95,24 +95,6 @@ fn word(verdict: Verdict) -> &'static str {
     }
 }
 
-// Writes what the loads read, how the epochs were judged, and the verdict, a line each.
-impl fmt::Display for Story {
-    fn fmt<W: fmt::Write>(&self, f: &mut fmt::Formatter<W>) -> fmt::Result {
-        let first = source(self.first_load);
-        let second = source(self.second_load);
-        let Counts {
-            judged,
-            dropped,
-            ..
-        } = self.counts;
-        let verdict = word(self.verdict);
-        write!(
-            f,
-            "thread 0 read {first}\nthread 1 read {second}\njudged {judged}, dropped {dropped}\n{verdict}"
-        )
-    }
-}
-
 // A fault in the words of this program.
 #[derive(Clone, Copy)]
 struct Told(Fault);
@@ -140,7 +122,15 @@ impl fmt::Display for Told {
 
 fn main(rt: HostRuntime) -> io::Result<()> {
     match handing_over() {
-        Ok(story) => println!(rt; "{story}")?,
+        Ok(story) => {
+            println!(rt; "thread 0 read {}", source(story.first_load))?;
+            println!(rt; "thread 1 read {}", source(story.second_load))?;
+            println!(rt;
+                "judged {}, dropped {}",
+                story.counts.judged, story.counts.dropped
+            )?;
+            println!(rt; "{}", word(story.verdict))?;
+        }
         Err(fault) => println!(rt; "{}", Told(fault))?,
     }
     match overtaking() {

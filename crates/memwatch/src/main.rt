@@ -30,10 +30,18 @@ examples/ has traces to start from.
 ";
 
 // Reads a text to its end. What follows once it is too long is not kept.
-fn read_text<R: Read + Drop>(mut input: R, text: &mut Vec<u8>) -> io::Result<()> {
-    input.by_ref().take(MAX_TEXT as u64 + 1).read_to_end(text)?;
-    if text.len() > MAX_TEXT {
-        io::copy(&mut input, &mut io::sink())?;
+// By a loop of its own: each read is offered as much, so that a text that comes in packets of up to 4096 bytes is read whole, and a read that
+// fails ends it, also one that a signal interrupts.
+fn read_text<R: Read>(input: &mut R, text: &mut Vec<u8>) -> io::Result<()> {
+    let mut buffer = [0u8; 4096];
+    for _ in 0..u64::MAX {
+        let count = input.read(&mut buffer)?;
+        if count == 0 {
+            break;
+        }
+        if text.len() <= MAX_TEXT {
+            text.extend_from_slice(&buffer[..count])?;
+        }
     }
     Ok(())
 }
@@ -41,7 +49,7 @@ fn read_text<R: Read + Drop>(mut input: R, text: &mut Vec<u8>) -> io::Result<()>
 // Standard input, read to its end; nothing where it is closed.
 fn read_input(rt: &HostRuntime) -> io::Result<Vec<u8>> {
     let mut text = Vec::new(rt.alloc());
-    match read_text(rt.stdin(), &mut text) {
+    match read_text(&mut rt.stdin(), &mut text) {
         Err(error) if error.raw_os_error() != Some(NOT_OPEN) => Err(error),
         _ => Ok(text),
     }
