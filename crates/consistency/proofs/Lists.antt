@@ -59,6 +59,9 @@ nth_push {d = d} xs y {k} {x} h = by (ltb k (length xs)) refl
 pub nth_all : {A : Type 0} {d : A} (xs : List A) (y : A) {C : ℕ → A → Type 0} → ((k : ℕ) (x : A) → Nth d xs k x → C k x) → C (length xs) y → (k : ℕ) (x : A) → Nth d (xs ++ (y ∷ [])) k x → C k x
 nth_all xs y {C} old new k x h = ⊎_elim (λ g. old k x g) (λ e. rw (e.0, e.1) new) (nth_push xs y h)
 
+pub nth_same : {A : Type 0} {d : A} {xs : List A} {k : ℕ} {x y : A} → Nth d xs k x → Nth d xs k y → x ≡ y
+nth_same h g = sym h.is ∙ g.is
+
 -- What find answers.
 pub find_none : {A : Type 0} (p : A → Bool) (xs : List A) → find p xs ≡ None → (x : A) → Mem x xs → p x ≡ false
 find_none p [] e x m = absurd m

@@ -1,2 +1,3 @@
+pub mod Sorts
 pub mod Heaps
 pub mod Orders

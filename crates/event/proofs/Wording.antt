@@ -1,9 +1,9 @@
 -- A kind of event is read from just the bytes of its word. Assumes nothing.
-use Rattle.std.proofs.Common.{◌≡◌, ℕ, true, List, Some, codes, IsUtf8, refl}
+use Rattle.std.proofs.Common.{◌≡◌, ℕ, true, List, Some, None, codes, IsUtf8, refl}
 use lib.Utf8.{encode}
 use Rattle.std.specs.Str.Iter.{LacksByte}
 use Rattle.fields.proofs.Lacking.{without, lacks_from_without}
-use Rattle.fields.proofs.Spelling.{spelled_among}
+use Rattle.fields.proofs.Spelling.{among_none, spelled_among}
 use Rattle.event.specs.declared.event.EventKind.{EventKind}
 use Rattle.event.specs.declared.event.EventKind.TheVariants.{Preset, Commit, Perform, Advance, Begin, End, Settle, Close}
 use Rattle.event.specs.Kinds.{word_of, kinds, kind_named}
@@ -18,6 +18,9 @@ utf8_word Begin = (codes "begin", (refl, refl))
 utf8_word End = (codes "end", (refl, refl))
 utf8_word Settle = (codes "settle", (refl, refl))
 utf8_word Close = (codes "close", (refl, refl))
+
+pub kind_none : (bs : List ℕ) → ((k : EventKind) → bs ≡ word_of k → ⊥) → kind_named bs ≡ None
+kind_none bs no_word = among_none word_of kinds bs no_word
 
 pub kind_word : (k : EventKind) → kind_named (word_of k) ≡ Some k
 kind_word Preset = refl

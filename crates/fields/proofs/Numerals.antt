@@ -1,11 +1,11 @@
 -- What a field must be to write a number, and the field that a number is written as. Assumes nothing.
-use Rattle.std.proofs.Common.{◌≡◌, ℕ, ◌^◌, ◌<◌, ◌≤◌, true, false, not, ◌&&◌, ltb, List, [], ◌∷◌, length, get_or, Some, None, Ok, Err, IsUtf8, decimal, Option, Result, MatchOption, sym, refl, ap, ◌∙◌, subst, inl, inr, arith, rules}
+use Rattle.std.proofs.Common.{◌≡◌, ℕ, ◌+◌, ◌/◌, ◌^◌, ◌<◌, ◌≤◌, true, false, not, ◌&&◌, ltb, List, [], ◌∷◌, length, get_or, Some, None, Ok, Err, IsUtf8, decimal, Option, Result, MatchOption, sym, refl, ap, ◌∙◌, subst, inl, inr, arith, length-append, rules}
 use Rattle.std.specs.Str.Parse.{ParsesUnsigned}
 use Rattle.std.specs.Str.Iter.{LacksByte}
 use Rattle.std.specs.Str.{all_ascii_digits}
 use Rattle.std.proofs.lemmas.Bool.{cond-true, cond-false, cases_Bool, and_parts, and_from, ltb-true, lt-ltb, not-true, not_from_false, eqb-false, ne_eqb, cases_lt}
-use Rattle.std.proofs.lemmas.Str.Parse.{IsNumeralModel, numerals_by_fold, parse_plain, not_in_digits}
-use Rattle.std.proofs.lemmas.Fmt.{digits_decimal, digits_value-decimal, decimal_nonempty, decimal_digit, first_decimal, decimal-digits_value, length-decimal-le, IsAscii-from_digits}
+use Rattle.std.proofs.lemmas.Str.Parse.{IsNumeralModel, numerals_by_fold, parse_plain, digit_at, not_in_digits}
+use Rattle.std.proofs.lemmas.Fmt.{digits_decimal, digits_value-decimal, decimal_nonempty, decimal_digit, first_decimal, decimal-digits_value, decimal_step, length-decimal-le, IsAscii-from_digits}
 use Rattle.std.proofs.lemmas.Str.{IsUtf8-from_ascii}
 use Rattle.fields.specs.Parses.{ParsesNone}
 use Rattle.fields.specs.Numbers.{onward, padded, numeral, number}
@@ -62,6 +62,11 @@ number_parsed {E = E} Why Also bs None h sign bare =
     let refused = h (utf8_from_plain bs q) in
     parse_plain own {E = E} 64 bs (Err refused.0) refused.1.0 sign (q.digits, q.some, q.small)))
 
+-- a plus sign in front is no digit
+pub number_signed : (bs : List ℕ) → get_or bs 0 0 ≡ 43 → number bs ≡ None
+number_signed [] e = refl
+number_signed (c ∷ cs) e = number_none (c ∷ cs) (λ p. absurd (omega (arith, digit_at (c ∷ cs) 0 (own.to (c ∷ cs) p.digits) (omega (arith, p.some)))))
+
 padded_none : (bs : List ℕ) → (get_or bs 0 0 ≡ 48 → length bs ≡ 1) → padded bs ≡ false
 padded_none [] h = refl
 padded_none (c ∷ []) h = refl
@@ -101,6 +106,10 @@ decimal_number bs n e =
 -- a written number has no byte but digits
 pub lacks_in_decimal : (m n : ℕ) → m < 48 → n < 2 ^ 64 → LacksByte m (decimal n)
 lacks_in_decimal m n low small = not_in_digits own (decimal n) m (digits_decimal own n small) (λ h. absurd (omega (arith, h.0)))
+
+-- one digit more
+pub length_decimal_step : (n : ℕ) → 10 ≤ n → n < 2 ^ 64 → length (decimal n) ≡ length (decimal (n / 10)) + 1
+length_decimal_step n h small = ap length (decimal_step n h small) ∙ length-append (decimal (n / 10)) _
 
 -- a number of 64 bits has at most twenty digits
 pub length_decimal : (n : ℕ) → n < 2 ^ 64 → length (decimal n) ≤ 20

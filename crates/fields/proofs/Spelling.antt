@@ -10,6 +10,15 @@ use Rattle.fields.specs.Parses.{ParsesNone}
 use Rattle.fields.proofs.Stepping.{some_from_ok_or}
 
 module _ {N : Type 0} (spells : N → List ℕ) where
+  -- bytes that spell nothing are found nowhere
+  pub among_none : (ns : List N) (bs : List ℕ) → ((n : N) → bs ≡ spells n → ⊥) → among spells ns bs ≡ None
+  among_none [] bs no_name = refl
+  among_none (n ∷ ns) bs no_name =
+      elim (cases_Bool (bytes_eq bs (spells n))) [
+        | inl e ↦ absurd (no_name n ((bytes_eq-Decides bs (spells n)).0 e))
+        | inr e ↦ cond-false _ _ _ e ∙ among_none ns bs no_name
+      ]
+
   -- what is found is what the bytes spell
   pub spelled_among : (ns : List N) (bs : List ℕ) (m : N) → among spells ns bs ≡ Some m → bs ≡ spells m
   spelled_among [] bs m e = let z : ◌≡◌ {A = ℕ} 0 1 = cc in absurd (omega arith)

@@ -1,2 +1,4 @@
+pub mod Matrix
+pub mod Names
 pub mod Numbers
 pub mod Tables
