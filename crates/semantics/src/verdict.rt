@@ -1,5 +1,6 @@
 // Why a call is refused, which law it breaks, and what a watch concludes.
 
+mod limit_number;
 mod number;
 
 // A bound on what a watch keeps, by its number.

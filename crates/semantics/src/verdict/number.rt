@@ -1,17 +1,8 @@
-// The numbers of refusals, limits and laws.
+// The numbers of refusals and laws, and of the limit in a refusal.
 ghost use Rattle.std.specs.Prelude.{◌≡◌};
-ghost use Rattle.semantics.specs.Numbers.{limit_number, refusal_number, limit_in, law_number};
+ghost use Rattle.semantics.specs.Numbers.{refusal_number, limit_in, law_number};
 
-use super::{Law, Limit, Refusal};
-
-impl Limit {
-    // The number of the limit. A method, as of a refusal and a law.
-    pub fn number(self) -> u64
-        ensures { result ≡ limit_number self }
-    {
-        self as u64
-    }
-}
+use super::{Law, Refusal};
 
 impl Refusal {
     // A match, since an enum whose variant holds a limit has no discriminants to cast.
