@@ -1,22 +1,44 @@
 -- The laws of a perform, by what lookups found. Assumes nothing.
-use Rattle.std.proofs.Common.{◌≡◌, ℕ, Bool, true, false, cond, not, ◌&&◌, ◌||◌, is_some, eqb, slice_index_or, List, [], ◌∷◌, Some, None, Option, Ok, Err, Result, MatchResult, subst, sym, refl, ap, ◌∙◌}
+use Rattle.std.proofs.Common.{◌≡◌, ℕ, Bool, true, false, cond, not, ◌&&◌, ◌||◌, is_some, eqb, ltb, slice_index_or, List, [], ◌∷◌, filter, find, Some, None, Option, Ok, Err, Result, MatchResult, subst, sym, refl, ap, ◌∙◌}
 use Rattle.std.specs.List.{position}
 use Rattle.semantics.specs.declared.class.OpClass.{OpClass}
-use Rattle.semantics.specs.declared.class.OpClass.TheVariants.{Store}
+use Rattle.semantics.specs.declared.class.OpClass.TheVariants.{Load, Store}
 use Rattle.semantics.specs.declared.row.Operation.{Operation}
 use Rattle.semantics.specs.declared.row.Epoch.{Epoch}
 use Rattle.semantics.specs.declared.verdict.Conviction.{Conviction}
-use Rattle.semantics.specs.declared.verdict.Law.TheVariants.{NoLeave}
-use Rattle.semantics.specs.Classes.{reads, writes}
+use Rattle.semantics.specs.declared.verdict.Law.TheVariants.{SamePlace, Ordered, NoLeave, WrongValue}
+use Rattle.semantics.specs.Classes.{reads, writes, touches, face}
 use Rattle.semantics.specs.Effect.{touch, load_answer}
-use Rattle.semantics.specs.Laws.{Precedes, earlier, source_from, may_write, needs_value, perform_laws}
-use Rattle.semantics.specs.Lists.{change, first_some}
+use Rattle.semantics.specs.Laws.{Rule, Precedes, by_rule, earlier, blame, law21, law22, forwarded, source_from, may_write, needs_value, perform_laws}
+use Rattle.semantics.specs.Lists.{change, first_some, last_of}
 use Rattle.semantics.specs.State.{Thread}
 use Rattle.thread.specs.declared.served.Performed.TheVariants.{Done, Forwarded, Copied}
 use Rattle.thread.specs.declared.served.Served.{Served}
 use Rattle.thread.specs.Attempt.{last_writer, epoch_of, grant_by, value_by, laws_by, SourcedBy}
 use Rattle.thread.specs.Performing.{no_epoch, ServesBy, Serves}
 use Rattle.thread.proofs.Lists.{found_from_position, none_from_position}
+use Rattle.thread.proofs.FoundRows.{find_keep, keep_keep}
+
+-- The tests of lookups in all that is outstanding.
+abbrev pub shares_place : Operation → Operation → Bool
+shares_place o x = cond (ltb x.number o.number) (touches x.class && eqb x.place o.place) false
+
+abbrev pub feeds : Operation → Operation → Bool
+feeds o x = cond (ltb x.number o.number) (writes x.class && eqb x.place o.place) false
+
+abbrev pub goes_before : Rule → Operation → Operation → Bool
+goes_before R o x = cond (ltb x.number o.number) (R (face x.class) (face o.class)) false
+
+pub law21_is : (w : Thread) (t : ℕ) (o : Operation) (f : Option Operation) → writes o.class ≡ true → find (shares_place o) w.pending ≡ f → law21 w t o ≡ blame SamePlace t o.number f
+law21_is w t o f s e =
+    ap (λ b. cond b (blame SamePlace t o.number (find (λ x. touches x.class && eqb x.place o.place) (earlier w o.number))) None) s
+    ∙ ap (blame SamePlace t o.number) (find_keep (λ x. ltb x.number o.number) (λ x. touches x.class && eqb x.place o.place) w.pending ∙ e)
+
+pub law22_is : (R : Rule) (w : Thread) (t : ℕ) (o : Operation) (f : Option Operation) → find (goes_before R o) w.pending ≡ f → law22 (by_rule R) w t o ≡ blame Ordered t o.number f
+law22_is R w t o f e = ap (blame Ordered t o.number) (find_keep (λ x. ltb x.number o.number) (λ x. R (face x.class) (face o.class)) w.pending ∙ e)
+
+pub forwarded_is : (w : Thread) (o : Operation) (f : Option Operation) → last_of (filter (feeds o) w.pending) ≡ f → forwarded w o ≡ f
+forwarded_is w o f e = ap last_of (keep_keep (λ x. ltb x.number o.number) (λ x. writes x.class && eqb x.place o.place) w.pending) ∙ e
 
 module _ (t : ℕ) (o : Operation) (f : Option Operation) (e : Option Epoch) where
   -- Laws 23 and 24, by the class, whether the thread may write the place, and the source.
@@ -31,6 +53,16 @@ module _ (t : ℕ) (o : Operation) (f : Option Operation) (e : Option Epoch) whe
   leave_is : (c : OpClass) (m : Bool) (s : Option ℕ) → o.class ≡ c → may_write e ≡ m → source_from f e ≡ s → leave_by ≡ leave_of c m s
   leave_is c m s d h k = ap (λ c. leave_of c (may_write e) (source_from f e)) d ∙ ap (λ m. leave_of c m (source_from f e)) h ∙ ap (leave_of c m) k
 
+  -- A load that received its source's value.
+  pub load_lawful : (v : ℕ) → o.class ≡ Load → source_from f e ≡ Some v → eqb v o.value ≡ true → leave_by ≡ None
+  load_lawful v d k q = leave_is Load (may_write e) (Some v) d refl k ∙ ap (λ b. first_some (None ∷ cond b None (Some (record { law = WrongValue; thread = t; number = o.number; other = v })) ∷ [])) q
+
+  pub load_wrong : (v : ℕ) → o.class ≡ Load → source_from f e ≡ Some v → eqb v o.value ≡ false → leave_by ≡ Some (record { law = WrongValue; thread = t; number = o.number; other = v })
+  load_wrong v d k q = leave_is Load (may_write e) (Some v) d refl k ∙ ap (λ b. first_some (None ∷ cond b None (Some (record { law = WrongValue; thread = t; number = o.number; other = v })) ∷ [])) q
+
+  pub load_sourceless : o.class ≡ Load → source_from f e ≡ None → leave_by ≡ Some (record { law = NoLeave; thread = t; number = o.number; other = o.place })
+  load_sourceless d k = leave_is Load (may_write e) None d refl k
+
   pub store_lawful : o.class ≡ Store → may_write e ≡ true → leave_by ≡ None
   store_lawful d h = leave_is Store true (source_from f e) d h refl
 
@@ -41,6 +73,14 @@ module _ (f : Option Operation) (es : List Epoch) (o : Operation) where
   -- The copies, by the class.
   abbrev copies_by : OpClass → ℕ → List Epoch
   copies_by c τ = cond (writes c || (reads c && not (is_some f))) (change (λ e. eqb e.place o.place) (touch τ o) es) es
+
+  -- What a load's source says of its answer and of the epochs.
+  pub load_serves : (v : ℕ) (s : Served) → o.class ≡ Load → SourcedBy f es o v s → ServesBy f es o s
+  load_serves v s d h = record {
+    answer = h.answer ∙ sym (ap (λ c. cond (reads c) (load_answer f) 0) d);
+    uses = λ τ. ap (λ c. copies_by c τ) d ∙ h.uses τ;
+    within = h.within;
+  }
 
   -- A store uses the epoch of its place.
   pub store_serves : (i : ℕ) → o.class ≡ Store → position (λ e. eqb e.place o.place) es ≡ Some i → ServesBy f es o (record { answer = Done; uses = Some i })

@@ -1,5 +1,9 @@
+pub mod Blanks
+pub mod Passes
 pub mod Lists
-pub mod Ascending
+pub mod Front
+pub mod FoundRows
 pub mod Begun
 pub mod Tests
 pub mod Laws
+pub mod Ends

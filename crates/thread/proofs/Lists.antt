@@ -1,11 +1,12 @@
 -- What the first and the last that pass are. Assumes nothing.
-use Rattle.std.proofs.Common.{◌≡◌, ℕ, zero, suc, ◌+◌, ◌<◌, ◌≤◌, Bool, true, false, not, cond, List, [], ◌∷◌, set, get_or, length, reverse, filter, find, is_some, Some, None, Option, refl, ap, sym, ◌∙◌, arith}
+use Rattle.std.proofs.Common.{◌≡◌, ℕ, zero, suc, ◌+◌, ◌<◌, ◌≤◌, Bool, true, false, not, cond, List, [], ◌∷◌, ◌++◌, set, get_or, length, reverse, remove, filter, find, is_some, Some, None, Option, refl, ap, sym, ◌∙◌, arith}
 use Rattle.std.specs.List.{position, position_from}
 use Rattle.std.specs.Option.{option_or}
 use Rattle.std.proofs.lemmas.Iterator.Adapters.{position_from-zero}
 use Rattle.std.proofs.lemmas.List.Folds.{find-append}
 use Rattle.std.proofs.lemmas.List.Quantifiers.{position-Some}
-use Rattle.std.proofs.lemmas.List.{reverse-append}
+use Rattle.std.proofs.lemmas.List.{reverse-append, append-nil}
+use Rattle.std.proofs.lemmas.List.Elements.{filter-append}
 use Rattle.std.proofs.lemmas.Option.{none-some}
 use Rattle.semantics.specs.Lists.{change, last_of}
 
@@ -71,7 +72,20 @@ pub find_reverse : {A : Type 0} (p : A → Bool) (xs : List A) → find p (rever
 find_reverse p [] = refl
 find_reverse p (x ∷ xs) = ap (find p) (reverse-append (x ∷ []) xs) ∙ find-append p (reverse xs) (x ∷ []) ∙ ap (λ o. option_or o (find p (x ∷ []))) (find_reverse p xs) ∙ last_cons p x xs
 
-filter_le : {A : Type 0} (q : A → Bool) (xs : List A) → length (filter q xs) ≤ length xs
+filter_reverse : {A : Type 0} (q : A → Bool) (xs : List A) → filter q (reverse xs) ≡ reverse (filter q xs)
+filter_reverse q [] = refl
+filter_reverse {A} q (x ∷ xs) =
+    ap (filter q) (reverse-append (x ∷ []) xs) ∙ filter-append q (reverse xs) (x ∷ []) ∙ ap (λ ys. ys ++ filter q (x ∷ [])) (filter_reverse q xs) ∙ by (q x) (filter q xs)
+  where
+    by : (b : Bool) (ys : List A) → reverse ys ++ cond b (x ∷ []) [] ≡ reverse (cond b (x ∷ ys) ys)
+    by true ys = sym (reverse-append (x ∷ []) ys)
+    by false ys = append-nil (reverse ys)
+
+-- The same among those that pass another test.
+pub find_reverse_filter : {A : Type 0} (q p : A → Bool) (xs : List A) → find p (filter q (reverse xs)) ≡ last_of (filter p (filter q xs))
+find_reverse_filter q p xs = ap (find p) (filter_reverse q xs) ∙ find_reverse p (filter q xs)
+
+pub filter_le : {A : Type 0} (q : A → Bool) (xs : List A) → length (filter q xs) ≤ length xs
 filter_le q [] = omega arith
 filter_le q (x ∷ xs) = by (q x) (filter_le q xs)
   where
@@ -87,6 +101,12 @@ filter_shorter p (y ∷ ys) x e = by (p y) e (filter_shorter p ys x)
     by : (b : Bool) → cond b (Some y) (find p ys) ≡ Some x → (find p ys ≡ Some x → length (filter (λ y. not (p y)) ys) + 1 ≤ length ys) → length (cond (not b) (y ∷ filter (λ y. not (p y)) ys) (filter (λ y. not (p y)) ys)) + 1 ≤ length (y ∷ ys)
     by true e ih = let k = filter_le (λ y. not (p y)) ys in omega arith
     by false e ih = let k = ih e in omega arith
+
+-- A row that was found is no row of what is left.
+pub filter_remove : {A : Type 0} (p : A → Bool) (xs : List A) (i : ℕ) (d : A) → i < length xs → p (get_or xs i d) ≡ true → filter (λ y. not (p y)) (remove xs i) ≡ filter (λ y. not (p y)) xs
+filter_remove p [] i d l h = absurd (omega arith)
+filter_remove p (x ∷ xs) zero d l h = sym (ap (λ b. cond (not b) (x ∷ filter (λ y. not (p y)) xs) (filter (λ y. not (p y)) xs)) h)
+filter_remove p (x ∷ xs) (suc i) d l h = ap (λ ys. cond (not (p x)) (x ∷ ys) ys) (filter_remove p xs i d (omega arith) h)
 
 -- Nothing is taken out where nothing was found.
 pub filter_whole : {A : Type 0} (p : A → Bool) (xs : List A) → find p xs ≡ None → filter (λ y. not (p y)) xs ≡ xs

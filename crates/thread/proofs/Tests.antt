@@ -16,7 +16,7 @@ use Rattle.semantics.specs.Refusals.{Test}
 use Rattle.semantics.specs.State.{Thread, outstanding_as, epoch_at}
 use Rattle.thread.specs.Performing.{no_epoch, Performs, Begins, Ends}
 use Rattle.thread.specs.Tests.{early, perform_tests, begin_tests, end_tests}
-use Rattle.thread.proofs.Lists.{found_from_position, none_from_position, found_by_position}
+use Rattle.thread.proofs.Lists.{Found, found_from_position, none_from_position, found_by_position}
 
 pub skip : (b : Bool) (r : Refusal) (ts : List Test) → b ≡ false → first_of ((b, r) ∷ ts) ≡ first_of ts
 skip b r ts e = ap (λ b. cond b (Some r) (first_of ts)) e
@@ -38,6 +38,13 @@ pub performs_refused : (w : Thread) (n τ : ℕ) → w.clock ≤ τ → outstand
 performs_refused w n τ l e =
     let unknown = not (is_some (outstanding_as w n)) in
     skip (ltb τ w.clock) PastTime ((unknown, NotOutstanding) ∷ []) (le-ltb τ w.clock l) ∙ stop unknown NotOutstanding [] (ap (λ x. not (is_some x)) e)
+
+pub ends_free : (w : Thread) (p τ i : ℕ) → p < 512 → w.clock ≤ τ → Found (λ e. eqb e.place p) w.epochs i → first_of (end_tests p τ w) ≡ None
+ends_free w p τ i q l f =
+    let missing = not (is_some (epoch_at w p)) in
+    skip (ltb 511 p) UnknownPlace (early τ w ∷ (missing, NotOpen) ∷ []) (le-ltb 511 p (omega arith))
+    ∙ skip (ltb τ w.clock) PastTime ((missing, NotOpen) ∷ []) (le-ltb τ w.clock l)
+    ∙ skip missing NotOpen [] (ap (λ x. not (is_some x)) (f.here no_epoch))
 
 -- What is found, by the row of it, may end.
 pub ends_by : (w : Thread) (p τ : ℕ) (r : Option ℕ) → r ≡ position (λ e. eqb e.place p) w.epochs → p < 512 → w.clock ≤ τ

@@ -1,5 +1,5 @@
--- The laws of an operation by what an attempt looks at: the earlier outstanding operations and the open epochs. Assumes nothing.
-use Rattle.std.specs.Prelude.{◌≡◌, ℕ, cond, not, ◌&&◌, ◌||◌, List, [], ◌∷◌, length, find, filter, is_some, Some, None, Option, MatchResult, Result, ◌==◌, nat_eq}
+-- The laws of an operation by what an attempt looks at: the outstanding operations and the open epochs. Assumes nothing.
+use Rattle.std.specs.Prelude.{◌≡◌, ℕ, cond, not, ◌&&◌, ◌||◌, List, [], ◌∷◌, length, find, filter, is_some, Some, None, Option, MatchResult, Result, ◌==◌, nat_eq, nat_lt}
 use Rattle.semantics.specs.declared.row.Operation.{Operation}
 use Rattle.semantics.specs.declared.row.Epoch.{Epoch}
 use Rattle.semantics.specs.declared.verdict.Conviction.{Conviction}
@@ -52,22 +52,26 @@ pub record SourcedBy (f : Option Operation) (es : List Epoch) (o : Operation) (v
   pub uses : (τ : ℕ) → cond (not (is_some f)) (change (λ e. nat_eq e.place o.place) (touch τ o) es) es ≡ used_at τ o s.uses es
   pub within : Within s.uses (length es)
 
--- The same of an attempt.
+-- The outstanding operations before that of an attempt in program order.
+abbrev pub earlier_of : Attempt → List Operation
+earlier_of a = filter (λ o. nat_lt o.number a.op.number) a.outstanding.now
+
+-- The laws of an attempt.
 abbrev pub place_law_of : Attempt → Option Conviction
-place_law_of a = place_law a.earlier.now a.thread a.op
+place_law_of a = place_law (earlier_of a) a.thread a.op
 
 abbrev pub order_law_of : Precedes → Attempt → Option Conviction
-order_law_of B a = order_law B a.earlier.now a.thread a.op
+order_law_of B a = order_law B (earlier_of a) a.thread a.op
 
 abbrev pub leave_law_of : Attempt → Option Conviction
-leave_law_of a = leave_law a.earlier.now a.epochs.now a.thread a.op
+leave_law_of a = leave_law (earlier_of a) a.epochs.now a.thread a.op
 
 abbrev pub laws_of : Precedes → Attempt → Option Conviction
-laws_of B a = laws_by B a.earlier.now a.epochs.now a.thread a.op
+laws_of B a = laws_by B (earlier_of a) a.epochs.now a.thread a.op
 
 abbrev pub source_of : Attempt → Option ℕ
-source_of a = source_from (last_writer a.earlier.now a.op) (epoch_of a.epochs.now a.op)
+source_of a = source_from (last_writer (earlier_of a) a.op) (epoch_of a.epochs.now a.op)
 
 -- By some laws, an attempt serves the operation or breaks one of them.
 abbrev pub Serving : Attempt → Option Conviction → Result Served Conviction → Type 0
-Serving a law r = MatchResult r (λ s. (law ≡ None) × ServesBy (last_writer a.earlier.now a.op) a.epochs.now a.op s) (λ c. law ≡ Some c)
+Serving a law r = MatchResult r (λ s. (law ≡ None) × ServesBy (last_writer (earlier_of a) a.op) a.epochs.now a.op s) (λ c. law ≡ Some c)

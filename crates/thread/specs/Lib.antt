@@ -1,5 +1,6 @@
 pub mod Results
 pub mod Extent
+pub mod Rows
 pub mod Sound
 pub mod Times
 pub mod Tests

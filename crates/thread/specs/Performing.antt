@@ -4,7 +4,7 @@ use Rattle.semantics.specs.declared.class.OpClass.TheVariants.{Load}
 use Rattle.semantics.specs.declared.kind.EpochKind.{EpochKind}
 use Rattle.semantics.specs.declared.row.Operation.{Operation}
 use Rattle.semantics.specs.declared.row.Epoch.{Epoch}
-use Rattle.semantics.specs.Classes.{reads, writes, puts}
+use Rattle.semantics.specs.Classes.{reads, writes}
 use Rattle.semantics.specs.Effect.{touch, load_answer}
 use Rattle.semantics.specs.Kinds.{known_kind}
 use Rattle.semantics.specs.Laws.{forwarded, end_laws}

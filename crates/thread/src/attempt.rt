@@ -2,7 +2,7 @@
 ghost use Rattle.std.specs.Prelude.{◌≡◌, None, MatchOption};
 ghost use Rattle.semantics.specs.declared.class.OpClass.TheVariants as class;
 ghost use Rattle.semantics.specs.Laws.{blame, by_rule};
-ghost use Rattle.thread.specs.Attempt.{place_law_of, order_law_of, leave_law_of, laws_of, source_of, last_writer as writer, SourcedBy, Serving};
+ghost use Rattle.thread.specs.Attempt.{place_law_of, order_law_of, leave_law_of, laws_of, source_of, earlier_of, last_writer as writer, SourcedBy, Serving};
 ghost use Rattle.thread.specs.Results.{unless};
 
 use crate::lookups::{first_at, first_before, last_writer, row_at};
@@ -12,12 +12,12 @@ use semantics::class::OpClass;
 use semantics::row::{Epoch, Operation};
 use semantics::verdict::{Conviction, Law};
 
-// An operation of a thread, the outstanding operations before it in program order, and the thread's open epochs.
+// An operation of a thread, outstanding operations among which are all that stand before it in program order, and the thread's open epochs.
 #[derive(Clone, Copy)]
 pub(crate) struct Attempt<'a> {
     pub(crate) thread: u64,
     pub(crate) op: Operation,
-    pub(crate) earlier: &'a [Operation],
+    pub(crate) outstanding: &'a [Operation],
     pub(crate) epochs: &'a [Epoch],
 }
 
@@ -38,7 +38,10 @@ impl Attempt<'_> {
         if !self.op.class.writes() {
             return Ok(());
         }
-        self.blame(Law::SamePlace, first_at(self.earlier, self.op.place))
+        self.blame(
+            Law::SamePlace,
+            first_at(self.outstanding, self.op.number, self.op.place),
+        )
     }
 
     // Law 22.
@@ -47,7 +50,7 @@ impl Attempt<'_> {
     {
         self.blame(
             Law::Ordered,
-            first_before(self.earlier, rule, self.op.class.face()),
+            first_before(self.outstanding, self.op.number, rule, self.op.class.face()),
         )
     }
 
@@ -83,9 +86,9 @@ impl Attempt<'_> {
 
     // A load's value: from the last earlier outstanding store to its place, failing that from the copy of the open epoch there.
     fn source(&self) -> Option<(u64, Served)>
-        ensures { MatchOption result (source_of self.now ≡ None) (λ p. SourcedBy (writer self.now.earlier.now self.now.op) self.now.epochs.now self.now.op p.0 p.1) }
+        ensures { MatchOption result (source_of self.now ≡ None) (λ p. SourcedBy (writer (earlier_of self.now) self.now.op) self.now.epochs.now self.now.op p.0 p.1) }
     {
-        match last_writer(self.earlier, self.op.place) {
+        match last_writer(self.outstanding, self.op.number, self.op.place) {
             Some(store) => Some((
                 store.value,
                 Served {

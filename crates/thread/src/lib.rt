@@ -5,5 +5,6 @@ mod attempt;
 pub mod limits;
 mod lookups;
 pub mod row;
+mod rows;
 pub mod served;
 pub mod span;

@@ -1,11 +1,12 @@
 // The laws that a thread's operations and epochs have to keep.
 ghost use Rattle.std.specs.Prelude.{◌≡◌, ◌<◌, length, Some, None, MatchResult};
 ghost use Rattle.semantics.specs.Laws.{by_rule, earlier, perform_laws, end_laws};
+ghost use Rattle.thread.specs.Attempt.{earlier_of};
 ghost use Rattle.thread.specs.Performing.{epoch_in, Serves, Spans};
 
 use super::ThreadRow;
 use crate::attempt::Attempt;
-use crate::lookups::row_from;
+use crate::lookups::front;
 use crate::served::Served;
 use crate::span::Span;
 use ordering::rule::OrderingRule;
@@ -17,24 +18,15 @@ impl ThreadRow {
     fn attempt(&self, thread: u64, op: Operation) -> Attempt<'_>
         ensures thread { result.thread ≡ thread }
         ensures op { result.op ≡ op }
-        ensures earlier { result.earlier.now ≡ earlier self.now op.number }
+        ensures earlier { earlier_of result ≡ earlier self.now op.number }
         ensures epochs { result.epochs.now ≡ self.now.epochs }
     {
         Attempt {
             thread,
             op,
-            earlier: self.earlier(op.number),
+            outstanding: front(&self.outstanding, op.number),
             epochs: &self.epochs,
         }
-    }
-
-    // The outstanding operations before a number in program order. They stand in front, since their numbers ascend;
-    // they are looked for from the front, where most often the one that performs stands.
-    fn earlier(&self, number: u64) -> &[Operation]
-        ensures { result.now ≡ earlier self.now number }
-    {
-        let rows = row_from(&self.outstanding, number).unwrap_or(self.outstanding.len());
-        &self.outstanding[..rows]
     }
 
     // Laws 21 to 24: what the operation answers and which epoch it uses, or the law that it breaks.

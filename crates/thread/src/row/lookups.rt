@@ -44,6 +44,14 @@ impl ThreadRow {
         self.clock
     }
 
+    // How many operations were committed.
+    pub fn commits(&self) -> u64
+        ensures count { result ≡ self.now.commits }
+        ensures fits { result ≤ 1000000 }
+    {
+        self.commits
+    }
+
     // How many epochs are open.
     pub fn open(&self) -> u64
         ensures count { result ≡ length self.now.epochs }

@@ -1,11 +1,11 @@
 // A thread that has done nothing, and what can be asked of one.
-ghost use Rattle.std.specs.Prelude.{◌≡◌, ◌+◌, length, fold, min, ◌==◌};
+ghost use Rattle.std.specs.Prelude.{◌≡◌, ◌+◌, ◌≤◌, length, fold, min, ◌==◌};
 ghost use Rattle.semantics.specs.Asking.{free_places};
 ghost use Rattle.semantics.specs.State.{idle};
 ghost use Rattle.thread.specs.Times.{thread_times};
 
 use super::ThreadRow;
-use arrayvec::ArrayVec;
+use crate::rows::Rows;
 
 impl ThreadRow {
     // Nothing is outstanding or open, and the clock is 0.
@@ -15,8 +15,8 @@ impl ThreadRow {
         ThreadRow {
             clock: 0,
             commits: 0,
-            outstanding: ArrayVec::new(),
-            epochs: ArrayVec::new(),
+            outstanding: Rows::new(),
+            epochs: Rows::new(),
         }
     }
 
@@ -39,7 +39,8 @@ impl ThreadRow {
 
     // How many more operations can be outstanding.
     pub fn spare(&self) -> u64
-        ensures { result ≡ free_places self.now }
+        ensures free { result ≡ free_places self.now }
+        ensures fits { length self.now.pending ≤ 64 }
     {
         self.outstanding.remaining_capacity() as u64
     }

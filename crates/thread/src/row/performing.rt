@@ -30,13 +30,11 @@ impl ThreadRow {
         self.clock = time;
     }
 
-    // The operation of a number is no longer outstanding, where there was one.
+    // No operation of a number is outstanding any longer.
     fn retire(&mut self, number: u64)
         ensures { self.new ≡ retired number self.old }
     {
-        if let Some(i) = self.operation(number) {
-            self.outstanding.remove(i);
-        }
+        self.outstanding.drop_number(number);
     }
 
     // What writes puts its value into the copy; the last use is the time.
@@ -45,7 +43,7 @@ impl ThreadRow {
         requires time { self.old.clock ≤ time }
         ensures { self.new ≡ put_epochs self.old (used_at time op (Some i) self.old.epochs) }
     {
-        self.epochs[i] = touched(self.epochs[i], op, time);
+        self.epochs.set(i, touched(self.epochs[i], op, time));
     }
 }
 

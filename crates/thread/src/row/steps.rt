@@ -10,7 +10,8 @@ ghost use Rattle.thread.specs.Tests.{advance_tests, commit_tests, perform_tests,
 
 use super::ThreadRow;
 use crate::limits::{MOST_COMMITS, MOST_OPEN, PLACES};
-use arrayvec::ArrayVec;
+use crate::lookups::row_at;
+use crate::rows::Rows;
 use ordering::class::Class;
 use semantics::class::OpClass;
 use semantics::kind::EpochKind;
@@ -131,10 +132,12 @@ impl ThreadRow {
 }
 
 // The epochs without that of a place.
-fn drop_place(epochs: &mut ArrayVec<Epoch, MOST_OPEN>, place: u64)
-    ensures { epochs.new.items ≡ filter (λ e. not (e.place == place)) epochs.old.items }
+fn drop_place(epochs: &mut Rows<Epoch, MOST_OPEN>, place: u64)
+    ensures { epochs.new ≡ filter (λ e. not (e.place == place)) epochs.old }
 {
-    epochs.retain(|e| e.place != place);
+    while let Some(i) = row_at(epochs, place) {
+        epochs.remove(i);
+    }
 }
 
 // What a commit writes down. A barrier's place and value are not looked at.

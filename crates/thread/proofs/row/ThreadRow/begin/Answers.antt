@@ -11,10 +11,8 @@ invariant_of-self c =
     let e = c.args.epoch in
     let clock = ap (λ s. s.clock) c.self.view_is in
     let t = c.requires.time in
-    let kept = begun_later w.clock e.from (omega (arith, clock, t.0)) w.epochs.items i.epochs_begun in
+    let kept = begun_later w.clock e.from (omega (arith, clock, t.0)) w.epochs i.epochs_begun in
     record {
       commits_fit = i.commits_fit;
-      epochs_begun = rw c.push.ensures.items (All-push (IsBegun e.from) _ e kept (record { before_use = t.1; before_clock = omega arith }));
-      ascending = i.ascending;
-      committed = i.committed;
+      epochs_begun = rw c.push.ensures (All-push (IsBegun e.from) _ e kept (record { before_use = t.1; before_clock = omega arith }));
     }

@@ -1,4 +1,4 @@
-use Rattle.std.proofs.Common.{◌≤◌, ◌<◌, length, ap, sym, arith, ◌∙◌}
+use Rattle.std.proofs.Common.{◌≤◌, ◌<◌, length, sym, arith, ◌∙◌}
 use Rattle.std.proofs.lemmas.Bool.Decides.{nat_tests}
 use Rattle.thread.proofs.Tests.{begins_by, begun_already, begun_full}
 use Rattle.thread.proofs.row.ThreadRow.may_begin.Goals as goal

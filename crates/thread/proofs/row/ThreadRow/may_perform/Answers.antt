@@ -1,4 +1,4 @@
-use Rattle.std.proofs.Common.{◌≡◌, ◌∙◌, ◌==◌, ap, sym}
+use Rattle.std.proofs.Common.{◌==◌, sym}
 use Rattle.semantics.specs.declared.row.Operation.{Operation}
 use Rattle.thread.specs.Performing.{no_operation}
 use Rattle.thread.proofs.Lists.{found_from_position, none_from_position}

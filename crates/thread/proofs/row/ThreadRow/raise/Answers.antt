@@ -9,7 +9,5 @@ invariant_of-self c =
     let clock = ap (λ s. s.clock) c.self.view_is in
     record {
       commits_fit = i.commits_fit;
-      epochs_begun = begun_later w.clock c.args.time (omega (arith, clock, c.requires)) w.epochs.items i.epochs_begun;
-      ascending = i.ascending;
-      committed = i.committed;
+      epochs_begun = begun_later w.clock c.args.time (omega (arith, clock, c.requires)) w.epochs i.epochs_begun;
     }
