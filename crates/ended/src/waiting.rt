@@ -1,7 +1,9 @@
 // The ended epochs that wait, in the order in which they are judged.
 ghost use Rattle.std.specs.Prelude.{◌≡◌, ◌<◌, ◌≤◌, nat_le, [], ◌∷◌, length, drop, MatchOption};
+ghost use Rattle.queue.specs.Order.{Heap, sorted, le_by};
 ghost use Rattle.semantics.specs.Judging.{insert};
 ghost use Rattle.thread.specs.declared.limits.TheConstants.{MOST_WAITING};
+ghost use Rattle.ended.specs.Order.{ended_cmp};
 
 use crate::row::EndedRow;
 use std::marker::Model;
@@ -48,6 +50,17 @@ impl Waiting {
         ensures fits { result ≤ MOST_WAITING }
     {
         self.count
+    }
+
+    // The rows that wait, as they lie: a heap, of which the least stands first.
+    #[tactic(auto, using(crate::proofs::Heaps::length_sorted_take))]
+    pub fn rows(&self) -> &[EndedRow]
+        ensures value { sorted (le_by ended_cmp) result.now ≡ self.now }
+        ensures heaped { Heap (le_by ended_cmp) result.now (length result.now) }
+        ensures count { length result.now ≡ length self.now }
+        ensures fits { length result.now ≤ MOST_WAITING }
+    {
+        &self.rows[..self.count]
     }
 
     // Whether no more can wait.

@@ -1,9 +1,9 @@
 -- Some threads, taken together. Assumes nothing.
-use Rattle.std.proofs.Common.{◌≡◌, ℕ, zero, suc, ◌+◌, ◌<◌, ◌≤◌, eqb, ◌&&◌, List, [], ◌∷◌, ◌++◌, map, length, get_or, set, replicate, min, Some, None, Option, sym, refl, ap, ◌∙◌, arith}
+use Rattle.std.proofs.Common.{◌≡◌, ℕ, zero, suc, ◌+◌, ◌<◌, ◌≤◌, eqb, ◌&&◌, List, [], ◌∷◌, ◌++◌, map, length, get_or, set, replicate, take, min, Some, None, Option, sym, refl, ap, ◌∙◌, arith}
 use Rattle.std.specs.List.{fold, flat_map, list_all, refill, sum_by}
 use Rattle.std.proofs.lemmas.Bool.{eqb-true}
 use Rattle.std.proofs.lemmas.Bool.Decides.{nat_tests}
-use Rattle.std.proofs.lemmas.List.{length-set, get_or_default}
+use Rattle.std.proofs.lemmas.List.{length-set, get_or_default, take-replicate}
 use Rattle.std.proofs.lemmas.Grind.{common_steps}
 use Rattle.std.proofs.lemmas.List.Folds.{sum_by-zero}
 use Rattle.std.proofs.lemmas.List.Recursion.{is_sum_by}
@@ -41,6 +41,10 @@ open_idle ws n e = ap open_in e ∙ by n
     by : (n : ℕ) → open_in (replicate n idle) ≡ 0
     by zero = refl
     by (suc n) = let ih = by n in omega arith
+
+-- The first n of four rows that are each a copy of one idle row.
+pub idle_rows : {w : Thread} {four ws us : List Thread} (n : ℕ) → n ≤ 4 → w ≡ idle → four ≡ replicate 4 w → ws ≡ four → us ≡ take n ws → us ≡ replicate n idle
+idle_rows n l i f e t = t ∙ ap (take n) (e ∙ f ∙ ap (replicate 4) i) ∙ take-replicate n 4 idle l
 
 -- The row that was read is that of the state.
 pub row_is : (s : State) (vs : List Thread) (t : ℕ) (d : Thread) → vs ≡ s.threads → t < length s.threads → get_or vs t d ≡ thread_of s t

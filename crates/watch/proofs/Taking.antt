@@ -3,7 +3,7 @@ use Rattle.std.proofs.Common.{◌≡◌, ℕ, ◌∷◌, sym, refl, ap, ◌∙�
 use Rattle.semantics.specs.Asking.{WithinLeeway, free_places}
 use Rattle.semantics.specs.Calls.{Call, Answer}
 use Rattle.semantics.specs.Effect.{Outcome}
-use Rattle.semantics.specs.Laws.{Rule, by_rule}
+use Rattle.semantics.specs.Laws.{Precedes, Rule, by_rule}
 use Rattle.semantics.specs.State.{State, Thread}
 use Rattle.semantics.specs.Trace.{Trace, Follows, met}
 use Rattle.consistency.proofs.Refused.{refused_changes_nothing}
@@ -27,6 +27,10 @@ took orders before now c a s' h m =
       kept = λ r e. q ∙ refused_changes_nothing (by_rule R) before.state c r (sym p ∙ e);
       history = grows R before.state c a s' m;
     })
+
+-- The same of a call that the table meets so under every rule.
+pub took_always : {X : Type 0} (orders : X → Rule) (before now : Held X) (c : Call) (a : Answer) (s' : State) → before ≡ now → ((B : Precedes) → Meets B before.state c a s') → Took orders now c a (record { rule = before.rule; state = s' })
+took_always orders before now c a s' h m = took orders before now c a s' h (m (by_rule (orders before.rule)))
 
 -- An exact answer lies within the leeway.
 pub within_leeway : (w : Thread) (k : ℕ) → k ≡ free_places w → WithinLeeway w k

@@ -7,7 +7,7 @@ use arrayvec::ArrayVec;
 use ended::waiting::Waiting;
 use semantics::row::Home;
 use semantics::verdict::Verdict;
-use thread::limits::PLACES;
+use thread::limits::{MOST_THREADS, PLACES};
 use thread::row::ThreadRow;
 
 impl Table {
@@ -16,10 +16,8 @@ impl Table {
         requires { (0 < count) × (count ≤ 4) }
         ensures { result ≡ made count }
     {
-        let mut threads = ArrayVec::new();
-        for _ in 0..count {
-            threads.push(ThreadRow::new());
-        }
+        let mut threads = ArrayVec::from([ThreadRow::new(); MOST_THREADS]);
+        threads.truncate(count);
         Table {
             threads,
             homes: [Home::default(); PLACES],

@@ -11,7 +11,7 @@ invariant_of-self c =
     let fewer = c.in_ok-i.ensures.1.fewer in
     let before = ap (λ s. length s.owed) c.self.view_is in
     let after = ap length c.drop_row.ensures ∙ ap (λ s. length (without n s.owed)) c.self.view_is in
-    let more = ap length c.add.ensures ∙ length_insert ended_le c.index-deref-i.result c.self.inside.waiting in
+    let more = ap length c.add.ensures ∙ length_insert ended_le _ c.self.inside.waiting in
     record {
       some_threads = i.some_threads;
       homes_long = i.homes_long;

@@ -1,6 +1,6 @@
-use Rattle.semantics.specs.Laws.{by_rule}
-use Rattle.watch.proofs.Taking.{took}
+use Rattle.std.proofs.Common.{rules}
+use Rattle.watch.proofs.Taking.{took_always}
 use Rattle.watch.proofs.watch.Watch.close.Goals as goal
 
 pub returns-clause-took : goal.returns-clause-took
-returns-clause-took g c = took g.R.OrderingRule.orders _ c.args.self.now _ _ _ c.self.view_is (c.close.ensures (by_rule (g.R.OrderingRule.orders c.self.inside.rule)))
+returns-clause-took g c = took_always _ _ _ _ _ _ c.self.view_is (λ B. search rules)
